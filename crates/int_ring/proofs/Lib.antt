@@ -1,0 +1,7 @@
+pub mod Laws
+pub mod Ring
+pub mod Order
+pub mod Quotients
+pub mod Intervals
+pub mod Machine
+pub mod Bed
