@@ -1,0 +1,5 @@
+pub mod BodyBytes
+pub mod Counts
+pub mod Exact
+pub mod Lines
+pub mod StreamItems

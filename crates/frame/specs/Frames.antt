@@ -1,0 +1,108 @@
+-- The items of a stream of bytes: the lines between its line feeds, and the frames among them.
+use Rattle.std.specs.Prelude.{◌≡◌, ℕ, ◌+◌, ◌-◌, ◌*◌, List, [], ◌∷◌, ◌++◌, length, take, drop, Bool, false, ◌&&◌, ◌==◌, nat_le, slice_index, Option, Some, None, if◌then◌else◌, IsTrue, bit_xor}
+use Rattle.std.specs.List.{slice_split, filter_map, fold}
+use Rattle.std.specs.Str.Lines.{strip_carriage_return}
+use Rattle.frame.specs.Bodies.{is_body, dollar, star}
+use Rattle.frame.specs.declared.body.TheConstants.{MOST_BODY_BYTES}
+use Rattle.frame.specs.declared.item.Damage.{Damage}
+use Rattle.frame.specs.declared.item.Damage.TheVariants.{Shape, Cut}
+use Rattle.frame.specs.declared.item.Item.{Item}
+use Rattle.frame.specs.declared.item.Item.TheVariants.{Body, Damaged}
+
+abbrev pub damage_number : Damage → ℕ
+damage_number Shape = 1
+damage_number Cut = 4
+
+-- the exclusive or of the bytes
+abbrev pub checksum : List ℕ → ℕ
+checksum bytes = fold bit_xor 0 bytes
+
+-- the value of a hexadecimal digit of either case
+abbrev pub hexadecimal_value : ℕ → Option ℕ
+hexadecimal_value digit =
+    if nat_le 48 digit && nat_le digit 57 then Some (digit - 48)
+    else (if nat_le 65 digit && nat_le digit 70 then Some (digit - 55)
+    else (if nat_le 97 digit && nat_le digit 102 then Some (digit - 87) else None))
+
+-- the content is `$`, the body, `*`, and two hexadecimal digits that spell the body's checksum
+pub record IsFrame (content body : List ℕ) : Type 0 where
+  pub high : ℕ
+  pub low : ℕ
+  pub spelled : content ≡ dollar ∷ body ++ star ∷ high ∷ low ∷ []
+  pub body_is : IsTrue (is_body body)
+  pub high_value : ℕ
+  pub low_value : ℕ
+  pub high_is : hexadecimal_value high ≡ Some high_value
+  pub low_is : hexadecimal_value low ≡ Some low_value
+  pub sum : 16 * high_value + low_value ≡ checksum body
+
+-- the two digits spell the number
+abbrev pub spells : Option ℕ → Option ℕ → ℕ → Bool
+spells (Some high) (Some low) n = 16 * high + low == n
+spells (Some high) None n = false
+spells None low n = false
+
+-- the body of a content, if it is a right frame
+abbrev pub frame_body : List ℕ → Option (List ℕ)
+frame_body content =
+    let count = length content in
+    let body = take (count - 4) (drop 1 content) in
+    if nat_le 4 count && slice_index content 0 == dollar && slice_index content (count - 3) == star && is_body body
+    && spells (hexadecimal_value (slice_index content (count - 2))) (hexadecimal_value (slice_index content (count - 1))) (checksum body)
+    then Some body else None
+
+abbrev pub item_or_damage : Option (List ℕ) → Item
+item_or_damage (Some body) = Body body
+item_or_damage None = Damaged Shape
+
+-- the item of a content that isn't empty
+abbrev pub item_of_content : List ℕ → Item
+item_of_content content = item_or_damage (frame_body content)
+
+-- the item of a line without its line feed: its content is the line without one carriage return at its end,
+-- and an empty content is no item
+abbrev pub item_of_line : List ℕ → Option Item
+item_of_line line =
+    let content = strip_carriage_return line in
+    if length content == 0 then None else Some (item_of_content content)
+
+abbrev pub line_feed : ℕ
+line_feed = 10
+
+-- what stands between line feeds, the last of it after the last line feed
+abbrev pub between_feeds : List ℕ → List (List ℕ)
+between_feeds bytes = slice_split (λ b. b == line_feed) bytes
+
+abbrev pub all_but_last : List (List ℕ) → List (List ℕ)
+all_but_last [] = []
+all_but_last (line ∷ []) = []
+all_but_last (line ∷ next ∷ more) = line ∷ all_but_last (next ∷ more)
+
+abbrev pub last_of : List (List ℕ) → List ℕ
+last_of [] = []
+last_of (line ∷ []) = line
+last_of (line ∷ next ∷ more) = last_of (next ∷ more)
+
+-- the lines that a line feed ends, without it
+abbrev pub whole_lines : List ℕ → List (List ℕ)
+whole_lines bytes = all_but_last (between_feeds bytes)
+
+-- the bytes after the last line feed
+abbrev pub open_line : List ℕ → List ℕ
+open_line bytes = last_of (between_feeds bytes)
+
+-- the items of the whole lines, in order
+abbrev pub items : List ℕ → List Item
+items bytes = filter_map item_of_line (whole_lines bytes)
+
+-- the same with the damage of a stream that ends within a line
+abbrev pub items_end : List ℕ → List Item
+items_end bytes = items bytes ++ (if length (open_line bytes) == 0 then [] else Damaged Cut ∷ [])
+
+-- What is kept of a line: its bytes, or none where they are more than a frame and a carriage return have.
+abbrev pub kept : List ℕ → Option (List ℕ)
+kept line = if nat_le (length line) (MOST_BODY_BYTES + 5) then Some line else None
+
+-- A framer that keeps this was fed these bytes, as far as what follows can tell.
+abbrev pub StandsFor : Option (List ℕ) → List ℕ → Type 0
+StandsFor framer fed = framer ≡ kept (open_line fed)
