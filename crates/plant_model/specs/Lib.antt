@@ -1,0 +1,5 @@
+pub mod Demo
+pub mod Names
+pub mod Numbers
+pub mod Plants
+pub mod Versions

@@ -1,0 +1,155 @@
+//! The names of a plant's parts.
+ghost use Rattle.std.specs.Prelude.{◌≡◌, ◌↔◌, List, ℕ, Some, IsTrue, IsSome, IfSome, codes};
+ghost use Rattle.std.specs.Str.{bytes_eq};
+ghost use Rattle.std.specs.Cmp.{on_equiv, on_per, partial_equiv_from_equiv};
+ghost use Rattle.std.specs.Cmp.Lexicographic.{nat_list_eq_equiv};
+ghost use Rattle.plant_model.specs.Names.{is_name, is_name_byte};
+
+use crate::limits::MOST_NAME_BYTES;
+use arrayvec::ArrayString;
+use std::marker::Model;
+use std::{fmt, str};
+
+/// A name: 1 to 12 letters, digits, `_` and `-`. Contracts see its bytes.
+#[derive(Drop)]
+pub struct Name {
+    text: ArrayString<MOST_NAME_BYTES>,
+}
+
+impl Model for Name {
+    ghost use Rattle.std.specs.Prelude.{ℕ, List, IsTrue};
+    ghost use Rattle.plant_model.specs.Names.{is_name};
+
+    ghost Value = { List ℕ };
+
+    ghost view = { λ name. name.text.bytes };
+
+    ghost invariant = { λ name. IsTrue (is_name name.text.bytes) };
+}
+
+fn is_name_byte(byte: u8) -> bool
+    ensures { result ≡ is_name_byte byte }
+{
+    byte.is_ascii_alphanumeric() || byte == b'_' || byte == b'-'
+}
+
+fn is_name(bytes: &[u8]) -> bool
+    ensures { result ≡ is_name bytes.now }
+{
+    !bytes.is_empty()
+        && bytes.len() <= MOST_NAME_BYTES
+        && bytes.iter().all(|byte| is_name_byte(*byte))
+}
+
+impl Name {
+    /// The name that the bytes spell. None exactly where they are no name.
+    pub fn of(bytes: &[u8]) -> Option<Name>
+        ensures found { IsSome result ↔ IsTrue (is_name bytes.now) }
+        ensures spelled { IfSome result (λ name. name ≡ bytes.now) }
+    {
+        if !is_name(bytes) {
+            return None;
+        }
+        let text = str::from_utf8(bytes).ok()?;
+        let text = ArrayString::from(text).ok()?;
+        Some(Name { text })
+    }
+
+    /// The text of the name.
+    pub fn as_str(&self) -> &str
+        ensures value { result.now ≡ self.now }
+        ensures named { IsTrue (is_name self.now) }
+    {
+        self.text.as_str()
+    }
+
+    /// The bytes of the name.
+    pub fn bytes(&self) -> &[u8]
+        ensures value { result.now ≡ self.now }
+        ensures named { IsTrue (is_name self.now) }
+    {
+        self.text.as_str().as_bytes()
+    }
+}
+
+impl PartialEq for Name {
+    ghost eq = { bytes_eq };
+
+    ghost laws = { partial_equiv_from_equiv nat_list_eq_equiv };
+
+    fn eq(&self, other: &Self) -> bool {
+        self.bytes() == other.bytes()
+    }
+}
+
+impl Eq for Name {
+    ghost laws = { nat_list_eq_equiv };
+}
+
+/// The name `_`, which fills unused places.
+impl Default for Name {
+    ghost is_default = { λ name. name ≡ codes "_" };
+
+    fn default() -> Self {
+        let mut text = ArrayString::new();
+        text.push('_');
+        Name { text }
+    }
+}
+
+impl fmt::Debug for Name {
+    fn fmt<W: fmt::Write>(&self, f: &mut fmt::Formatter<W>) -> fmt::Result {
+        fmt::Debug::fmt(self.as_str(), f)
+    }
+}
+
+impl fmt::Display for Name {
+    ghost output = { λ name. Some name };
+
+    fn fmt<W: fmt::Write>(&self, f: &mut fmt::Formatter<W>) -> fmt::Result {
+        f.pad(self.as_str())
+    }
+}
+
+#[cfg(test)]
+mod tests {
+    use super::*;
+    use std::test::Fail;
+
+    #[test]
+    fn takes_names_alone(rt: HostRuntime) {
+        let names: [&[u8]; 5] = [b"A", b"z9", b"_", b"port-2_AFT", b"ABCDEFGHIJKL"];
+        for bytes in names {
+            let spelled = Name::of(bytes).is_some_and(|name| name.bytes() == bytes);
+            assert!(rt; spelled, "a name of {} bytes", bytes.len());
+        }
+        let others: [&[u8]; 7] = [
+            b"",
+            b"ABCDEFGHIJKLM",
+            b"BOW 1",
+            b"BOW,1",
+            b"BOW.1",
+            b"BOW\x80",
+            b"B\xC3\x85T",
+        ];
+        for bytes in others {
+            assert!(rt;
+                Name::of(bytes).is_none(),
+                "no name of {} bytes",
+                bytes.len()
+            );
+        }
+    }
+
+    #[test]
+    fn writes_names(rt: HostRuntime) -> Result<(), Fail> {
+        let name = Name::of(b"STBD-2").ok_or("a name")?;
+        assert_eq!(rt; name.as_str(), "STBD-2");
+        assert_eq!(rt; format!(in rt.alloc(); "{name}")?.as_str(), "STBD-2");
+        assert_eq!(rt; format!(in rt.alloc(); "{name:>8}")?.as_str(), "  STBD-2");
+        assert_eq!(rt; format!(in rt.alloc(); "{name:?}")?.as_str(), "\"STBD-2\"");
+        assert!(rt; name != Name::default());
+        assert_eq!(rt; Name::default().as_str(), "_");
+        Ok(())
+    }
+}

@@ -1,0 +1,100 @@
+//! A whole plant.
+ghost use Rattle.std.specs.Prelude.{◌≡◌, IsTrue};
+ghost use Rattle.plant_model.specs.Plants.{is_plant};
+
+use crate::limits::{MOST_GENERATORS, MOST_GROUPS, MOST_SECTIONS, MOST_THRUSTERS, MOST_TIES};
+use crate::name::Name;
+use crate::parts::{Generator, Group, Thruster, Tie};
+use crate::status::Status;
+use arrayvec::ArrayVec;
+use std::marker::Model;
+
+/// What a plant is made of.
+#[derive(Debug, Drop)]
+pub struct Parts {
+    pub name: Name,
+    /// The sections of the switchboard.
+    pub sections: ArrayVec<Name, MOST_SECTIONS>,
+    pub ties: ArrayVec<Tie, MOST_TIES>,
+    pub generators: ArrayVec<Generator, MOST_GENERATORS>,
+    pub thrusters: ArrayVec<Thruster, MOST_THRUSTERS>,
+    pub groups: ArrayVec<Group, MOST_GROUPS>,
+    /// How the parts stand when a session opens.
+    pub opening: Status,
+}
+
+/// A plant whose parts fit together: there is a section, a thruster and a group; no two sections, ties,
+/// generators and thrusters have one name, and no two groups; each section, tie, generator and thruster that a
+/// part names is there; a tie has two different ends; a group has members, none of them twice.
+/// Contracts see its parts.
+#[derive(Debug, Drop)]
+pub struct Plant {
+    parts: Parts,
+}
+
+impl Model for Plant {
+    ghost use Rattle.std.specs.Prelude.{IsTrue};
+    ghost use Rattle.plant_model.specs.declared.plant.Parts.{Parts};
+    ghost use Rattle.plant_model.specs.Plants.{is_plant};
+
+    ghost Value = { Parts };
+
+    ghost view = { λ plant. plant.parts };
+
+    ghost invariant = { λ plant. IsTrue (is_plant plant.parts) };
+}
+
+impl Plant {
+    /// The plant of these parts, which fit together.
+    pub fn of(parts: Parts) -> Plant
+        requires { IsTrue (is_plant parts) }
+        ensures { result ≡ parts }
+    {
+        Plant { parts }
+    }
+
+    pub fn name(&self) -> &Name
+        ensures { result.now ≡ self.now.name }
+    {
+        &self.parts.name
+    }
+
+    /// The sections of the switchboard.
+    pub fn sections(&self) -> &ArrayVec<Name, MOST_SECTIONS>
+        ensures { result.now ≡ self.now.sections }
+    {
+        &self.parts.sections
+    }
+
+    pub fn ties(&self) -> &ArrayVec<Tie, MOST_TIES>
+        ensures { result.now ≡ self.now.ties }
+    {
+        &self.parts.ties
+    }
+
+    pub fn generators(&self) -> &ArrayVec<Generator, MOST_GENERATORS>
+        ensures { result.now ≡ self.now.generators }
+    {
+        &self.parts.generators
+    }
+
+    pub fn thrusters(&self) -> &ArrayVec<Thruster, MOST_THRUSTERS>
+        ensures { result.now ≡ self.now.thrusters }
+    {
+        &self.parts.thrusters
+    }
+
+    /// The redundancy groups.
+    pub fn groups(&self) -> &ArrayVec<Group, MOST_GROUPS>
+        ensures { result.now ≡ self.now.groups }
+    {
+        &self.parts.groups
+    }
+
+    /// How the parts stand when a session opens.
+    pub fn opening(&self) -> &Status
+        ensures { result.now ≡ self.now.opening }
+    {
+        &self.parts.opening
+    }
+}
