@@ -1,0 +1,9 @@
+//! Angles in whole numbers: sines, turned axes, and what the wind does to a hull. Nothing here
+//! overflows, and nothing takes memory.
+#![tactic(auto)]
+
+mod angle;
+mod wind;
+
+pub use angle::{MOST_OFFSET, WHOLE_SINE, cosine, rotate, sine};
+pub use wind::wind_force;
