@@ -1,0 +1,4 @@
+pub mod Fields
+pub mod Histories
+pub mod Kept
+pub mod Texts
