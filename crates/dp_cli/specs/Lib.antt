@@ -1,0 +1,4 @@
+pub mod Sessions
+pub mod Statuses
+pub mod Texts
+pub mod Words

@@ -1,0 +1,65 @@
+-- The texts of a history: its log and its report.
+use Rattle.std.specs.Prelude.{ℕ, ◌-◌, List, [], ◌∷◌, ◌++◌, ◌==◌, if◌then◌else◌, codes}
+use Rattle.std.specs.List.{flat_map}
+use Rattle.std.specs.Fmt.{decimal}
+use Rattle.frame.specs.Frames.{damage_number}
+use Rattle.plant_model.specs.declared.parts.Group.{Group}
+use Rattle.plant_model.specs.declared.plant.Parts.{Parts}
+use Rattle.plant_core.specs.Telegrams.{telegram_text, reject_number}
+use Rattle.plant_core.specs.Machine.{replay}
+use Rattle.plant_core.specs.declared.call.Call.{Call}
+use Rattle.plant_core.specs.declared.call.Call.TheVariants.{Telegram, Note, Close}
+use Rattle.plant_core.specs.declared.call.Note.{Note as NoteKind}
+use Rattle.plant_core.specs.declared.call.Note.TheVariants.{Damaged, Rejected}
+use Rattle.plant_core.specs.declared.call.Reply.{Reply}
+use Rattle.plant_core.specs.declared.call.Reply.TheVariants.{Version, Same, Taken, UnknownName, Noted}
+use Rattle.plant_core.specs.declared.call.Entry.{Entry}
+use Rattle.plant_core.specs.declared.machine.State.{State}
+
+-- a text with the line feed that ends its line
+abbrev pub line : List ℕ → List ℕ
+line text = text ++ 10 ∷ []
+
+-- `S` for the session, `C` for the control loop, `O` for the operators, `W` with its number for a worker
+abbrev pub caller_text : ℕ → List ℕ
+caller_text caller =
+    if caller == 0 then codes "S" else (if caller == 1 then codes "C" else (if caller == 2 then codes "O"
+    else codes "W" ++ decimal (caller - 2)))
+
+abbrev pub note_text : NoteKind → List ℕ
+note_text (Damaged damage) = codes "DAMAGED," ++ decimal (damage_number damage)
+note_text (Rejected reject) = codes "REJECTED," ++ decimal (reject_number reject)
+
+abbrev pub call_text : Call → List ℕ
+call_text (Telegram telegram) = telegram_text telegram
+call_text (Note note) = note_text note
+call_text Close = codes "CLOSE"
+
+abbrev pub reply_text : Reply → List ℕ
+reply_text (Version number) = codes "VERSION," ++ decimal number
+reply_text Same = codes "SAME"
+reply_text Taken = codes "TAKEN"
+reply_text UnknownName = codes "UNKNOWN-NAME"
+reply_text Noted = codes "NOTED"
+
+-- the caller, the call and the reply
+abbrev pub entry_text : Entry → List ℕ
+entry_text entry = line (caller_text entry.caller ++ codes " " ++ call_text entry.call ++ codes " = " ++ reply_text entry.reply)
+
+abbrev pub log_head : Parts → List ℕ
+log_head plant = line (codes "LOG,1," ++ plant.name)
+
+-- the plant's name, and a line for each entry
+abbrev pub log_text : Parts → List Entry → List ℕ
+log_text plant history = log_head plant ++ flat_map entry_text history
+
+abbrev pub report_head : State → List ℕ
+report_head state = line (codes "REPORT," ++ decimal state.latest.number ++ codes "," ++ decimal state.events)
+
+-- nothing is known yet of what a group's loss leaves
+abbrev pub group_text : Group → List ℕ
+group_text group = line (codes "GROUP," ++ group.name ++ codes ",PENDING")
+
+-- the latest version, the count of telegrams and notes, and a line for each group
+abbrev pub report_text : Parts → List Entry → List ℕ
+report_text plant history = report_head (replay plant history) ++ flat_map group_text plant.groups.items ++ line (codes "END")

@@ -1,0 +1,114 @@
+//! The top calls of the program.
+ghost use Rattle.std.specs.Prelude.{◌≡◌, ◌⊎◌, map, string_bytes};
+ghost use Rattle.dp_io.specs.Streams.{Grew, Rose};
+ghost use Rattle.dp_cli.specs.Sessions.{shown, HasHistory, HasCause, IsComplete};
+ghost use Rattle.dp_cli.specs.Statuses.{status_text};
+
+use crate::dp_words::{RunStatus, form_of, plant_from, tell};
+use crate::session::session;
+use dp_io::{Gate, Sink, Source};
+use std::alloc::Global;
+use std::sync::Wait;
+use std::thread::Threads;
+
+/// What the words ask for, without a word to the error output.
+fn replay<B: Source, O: Sink>(
+    alloc: Global,
+    words: &[String],
+    telegrams: &mut B,
+    out: &mut O,
+) -> RunStatus
+    ensures history { HasHistory result
+        (shown (B.left telegrams.old) (B.left telegrams.new) (B.faults telegrams.old) (B.faults telegrams.new))
+        (shown (O.taken out.old) (O.taken out.new) (O.faults out.old) (O.faults out.new)) }
+    ensures causes { HasCause (map string_bytes words.now) result
+        (shown (B.left telegrams.old) (B.left telegrams.new) (B.faults telegrams.old) (B.faults telegrams.new))
+        (shown (O.taken out.old) (O.taken out.new) (O.faults out.old) (O.faults out.new)) }
+    ensures complete { IsComplete (map string_bytes words.now) result
+        (shown (B.left telegrams.old) (B.left telegrams.new) (B.faults telegrams.old) (B.faults telegrams.new))
+        (shown (O.taken out.old) (O.taken out.new) (O.faults out.old) (O.faults out.new)) }
+{
+    let form = match form_of(words) {
+        Ok(form) => form,
+        Err(kind) => return RunStatus::Usage(kind),
+    };
+    let plant = match plant_from(words[form.plant()].as_str()) {
+        Ok(plant) => plant,
+        Err(status) => return status,
+    };
+    match session(alloc, plant, telegrams, out) {
+        Ok(ending) => ending.status(),
+        Err(status) => status,
+    }
+}
+
+/// Runs the session that the words `replay PLANT TELEGRAMS` ask for, over the telegrams of the second source.
+///
+/// Where the words have that form, the plant is the demo and nothing fails, `out` takes the log of the session's
+/// history and then its report. The status says what failed else, and `err` takes its line. The first source would
+/// be the plant's; only the built-in plant can be had, so it isn't read.
+pub fn replay_call<A: Source, B: Source, O: Sink, E: Sink>(
+    alloc: Global,
+    words: &[String],
+    _first: &mut A,
+    second: &mut B,
+    out: &mut O,
+    err: &mut E,
+) -> RunStatus
+    ensures unread { _first.new ≡ _first.old }
+    ensures history { HasHistory result
+        (shown (B.left second.old) (B.left second.new) (B.faults second.old) (B.faults second.new))
+        (shown (O.taken out.old) (O.taken out.new) (O.faults out.old) (O.faults out.new)) }
+    ensures causes { HasCause (map string_bytes words.now) result
+        (shown (B.left second.old) (B.left second.new) (B.faults second.old) (B.faults second.new))
+        (shown (O.taken out.old) (O.taken out.new) (O.faults out.old) (O.faults out.new)) }
+    ensures complete { IsComplete (map string_bytes words.now) result
+        (shown (B.left second.old) (B.left second.new) (B.faults second.old) (B.faults second.new))
+        (shown (O.taken out.old) (O.taken out.new) (O.faults out.old) (O.faults out.new)) }
+    ensures told { Grew (E.taken err.old) (E.taken err.new) (status_text result) ⊎ Rose (E.faults err.old) (E.faults err.new) }
+{
+    let status = replay(alloc, words, second, out);
+    tell(&status, err);
+    status
+}
+
+/// All that the program does. The words are those after the program's name.
+///
+/// The sources are those of the plant, of the sensors or the recorded telegrams, and of the operators. Today the
+/// one command is `replay`, which starts no thread, reads the second source alone and tells the gate nothing.
+pub fn run<
+    R: Threads + Wait + Sync,
+    A: Source,
+    B: Source,
+    C: Source + Send,
+    O: Sink,
+    E: Sink,
+    G: Gate + Sync,
+>(
+    _rt: &R,
+    alloc: Global,
+    words: &[String],
+    first: &mut A,
+    second: &mut B,
+    _third: &mut C,
+    out: &mut O,
+    err: &mut E,
+    _gate: &G,
+) -> RunStatus
+    ensures unread { (first.new ≡ first.old) × (_third.new ≡ _third.old) }
+    ensures history { HasHistory result
+        (shown (B.left second.old) (B.left second.new) (B.faults second.old) (B.faults second.new))
+        (shown (O.taken out.old) (O.taken out.new) (O.faults out.old) (O.faults out.new)) }
+    ensures causes { HasCause (map string_bytes words.now) result
+        (shown (B.left second.old) (B.left second.new) (B.faults second.old) (B.faults second.new))
+        (shown (O.taken out.old) (O.taken out.new) (O.faults out.old) (O.faults out.new)) }
+    ensures complete { IsComplete (map string_bytes words.now) result
+        (shown (B.left second.old) (B.left second.new) (B.faults second.old) (B.faults second.new))
+        (shown (O.taken out.old) (O.taken out.new) (O.faults out.old) (O.faults out.new)) }
+    ensures told { Grew (E.taken err.old) (E.taken err.new) (status_text result) ⊎ Rose (E.faults err.old) (E.faults err.new) }
+{
+    replay_call(alloc, words, first, second, out, err)
+}
+
+#[cfg(test)]
+mod tests;

@@ -1,0 +1,186 @@
+//! Whole sessions over memory: what is written, and the status.
+ghost use Rattle.std.specs.Prelude.{◌<◌};
+
+use super::*;
+use dp_io::{MemorySink, MemorySource, NoGate};
+use plant_model::limits::MOST_STREAM_BYTES;
+use std::process::Abort;
+use std::test::Fail;
+
+/// The lines of the demo's groups, and the report's last.
+const GROUPS: &str = "GROUP,GA,PENDING\nGROUP,GB,PENDING\nEND\n";
+
+fn words(alloc: Global) -> Result<Vec<String>, Fail> {
+    let mut words = Vec::new(alloc);
+    words.push(String::from_str(alloc, "replay")?)?;
+    words.push(String::from_str(alloc, "demo")?)?;
+    words.push(String::from_str(alloc, "-")?)?;
+    Ok(words)
+}
+
+fn bytes(alloc: Global, text: &str) -> Result<Vec<u8>, Fail> {
+    let mut bytes = Vec::new(alloc);
+    bytes.extend_from_slice(text.as_bytes())?;
+    Ok(bytes)
+}
+
+fn call_number(alloc: Global, number: u64) -> Result<Vec<u64>, Fail> {
+    let mut calls = Vec::new(alloc);
+    calls.push(number)?;
+    Ok(calls)
+}
+
+/// A session over a source and a sink, whose bytes are looked at.
+fn replays(
+    rt: &impl Abort,
+    alloc: Global,
+    mut telegrams: MemorySource,
+    mut out: MemorySink,
+    status: RunStatus,
+    written: &str,
+) -> Result<(), Fail> {
+    let words = words(alloc)?;
+    let mut plant = MemorySource::new(Vec::new(alloc), 1, Vec::new(alloc));
+    let mut err = MemorySink::new(alloc, 64, Vec::new(alloc))?;
+    let words = words.as_slice();
+    let ended = replay_call(alloc, words, &mut plant, &mut telegrams, &mut out, &mut err);
+    assert_eq!(rt; ended, status);
+    assert_eq!(rt; out.taken(), written.as_bytes());
+    Ok(())
+}
+
+fn written(alloc: Global, log: &str, report: &str) -> Result<String, Fail> {
+    Ok(format!(in alloc; "LOG,1,DEMO\n{log}S CLOSE = TAKEN\n{report}\n{GROUPS}")?)
+}
+
+/// The telegrams come in pieces of at most seven bytes.
+fn answers(
+    rt: &impl Abort,
+    alloc: Global,
+    telegrams: &str,
+    log: &str,
+    report: &str,
+) -> Result<(), Fail> {
+    let source = MemorySource::new(bytes(alloc, telegrams)?, 7, Vec::new(alloc));
+    let sink = MemorySink::new(alloc, 1024, Vec::new(alloc))?;
+    let text = written(alloc, log, report)?;
+    replays(rt, alloc, source, sink, RunStatus::Clear, text.as_str())
+}
+
+#[test]
+fn answers_each_item(rt: HostRuntime) -> Result<(), Fail> {
+    let alloc = rt.alloc();
+    answers(&rt, alloc, "", "", "REPORT,0,0")?;
+    answers(
+        &rt,
+        alloc,
+        "$TIE,T1,CLOSE*6B\n$TIE,T1,CLOSE*6B\n",
+        "O TIE,T1,CLOSE = VERSION,1\nO TIE,T1,CLOSE = SAME\n",
+        "REPORT,1,2",
+    )?;
+    answers(
+        &rt,
+        alloc,
+        "$BRD*54\r\n",
+        "C REJECTED,1 = NOTED\n",
+        "REPORT,0,1",
+    )?;
+    answers(&rt, alloc, "$BRD*54", "C DAMAGED,4 = NOTED\n", "REPORT,0,1")?;
+    answers(
+        &rt,
+        alloc,
+        "$THR,BOW1,OUT*6b\n$GEN,G9,RUN*7B\n$GEN,G2,STOP*21\n$TIE,T1,CLOSE*6A\n",
+        "O THR,BOW1,OUT = VERSION,1\nO GEN,G9,RUN = UNKNOWN-NAME\nO GEN,G2,STOP = VERSION,2\nC DAMAGED,1 = NOTED\n",
+        "REPORT,2,4",
+    )
+}
+
+#[test]
+fn a_fault_keeps_what_was_answered(rt: HostRuntime) -> Result<(), Fail> {
+    let alloc = rt.alloc();
+    let telegrams = bytes(alloc, "$TIE,T1,CLOSE*6B\n$TIE")?;
+    let source = MemorySource::new(telegrams, 20, call_number(alloc, 1)?);
+    let sink = MemorySink::new(alloc, 1024, Vec::new(alloc))?;
+    let text = written(alloc, "O TIE,T1,CLOSE = VERSION,1\n", "REPORT,1,1")?;
+    replays(
+        &rt,
+        alloc,
+        source,
+        sink,
+        RunStatus::ReadFault,
+        text.as_str(),
+    )?;
+
+    let source = MemorySource::new(Vec::new(alloc), 1, Vec::new(alloc));
+    let sink = MemorySink::new(alloc, 1024, call_number(alloc, 1)?)?;
+    replays(
+        &rt,
+        alloc,
+        source,
+        sink,
+        RunStatus::WriteFault,
+        "LOG,1,DEMO\n",
+    )
+}
+
+#[test]
+fn a_stream_has_a_limit(rt: HostRuntime) -> Result<(), Fail> {
+    let alloc = rt.alloc();
+    let mut long = Vec::new(alloc);
+    for _ in 0..=MOST_STREAM_BYTES {
+        long.push(b'\n')?;
+    }
+    let source = MemorySource::new(long, 4096, Vec::new(alloc));
+    let sink = MemorySink::new(alloc, 1024, Vec::new(alloc))?;
+    let text = written(alloc, "", "REPORT,0,0")?;
+    replays(
+        &rt,
+        alloc,
+        source,
+        sink,
+        RunStatus::StreamTooLong,
+        text.as_str(),
+    )
+}
+
+#[test]
+fn run_answers_as_replay_does(rt: HostRuntime) -> Result<(), Fail> {
+    let alloc = rt.alloc();
+    let words = words(alloc)?;
+    let mut plant = MemorySource::new(Vec::new(alloc), 1, Vec::new(alloc));
+    let mut telegrams = MemorySource::new(Vec::new(alloc), 1, Vec::new(alloc));
+    let mut operators = MemorySource::new(Vec::new(alloc), 1, Vec::new(alloc));
+    let mut out = MemorySink::new(alloc, 1024, Vec::new(alloc))?;
+    let mut err = MemorySink::new(alloc, 64, Vec::new(alloc))?;
+    let status = run(
+        &rt,
+        alloc,
+        words.as_slice(),
+        &mut plant,
+        &mut telegrams,
+        &mut operators,
+        &mut out,
+        &mut err,
+        &NoGate,
+    );
+    assert_eq!(rt; status, RunStatus::Clear);
+    let text = written(alloc, "", "REPORT,0,0")?;
+    assert_eq!(rt; out.taken(), text.as_str().as_bytes());
+    assert_eq!(rt; err.taken(), b"".as_slice());
+
+    let no_words = Vec::new(alloc);
+    let status = run(
+        &rt,
+        alloc,
+        no_words.as_slice(),
+        &mut plant,
+        &mut telegrams,
+        &mut operators,
+        &mut out,
+        &mut err,
+        &NoGate,
+    );
+    assert_eq!(rt; status, RunStatus::Usage(1));
+    assert_eq!(rt; err.taken(), b"dp: usage 1\n".as_slice());
+    Ok(())
+}

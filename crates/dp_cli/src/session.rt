@@ -1,0 +1,210 @@
+//! A session over one stream: each item of the stream is a call of the machine, and the history is written at the
+//! end.
+ghost use Rattle.std.specs.Prelude.{◌≡◌, ◌<◌, ◌≤◌, ◌+◌, List, ℕ, [], ◌∷◌, ◌++◌, length, OnOk, OnErr, IfOk, IfErr};
+ghost use Rattle.dp_io.specs.Streams.{Gave, Grew, Rose};
+ghost use Rattle.frame.specs.Frames.{StandsFor, items};
+ghost use Rattle.frame.specs.declared.item.Item.{Item as FrameItem};
+ghost use Rattle.dp_cli.specs.Sessions.{asked_for, AnswersItems, items_until, MayEnd, shown, status_of, written, GrewInPart, IsWriteError, WritesWhole, WritesPart};
+ghost use Rattle.dp_cli.specs.Texts.{log_text, report_text};
+
+use crate::dp_words::RunStatus;
+use crate::log_text;
+use dp_io::{Failed, NoMemory, Sink, Source, send_all};
+use frame::{Framer, Item};
+use plant_core::{Call, Core, Note, telegram};
+use plant_model::limits::{MOST_ENTRIES, MOST_STREAM_BYTES};
+use plant_model::plant::Plant;
+use std::alloc::Global;
+
+/// The callers of a session on one thread: the session itself, the control loop and the operators.
+const SESSION: u32 = 0;
+
+const CONTROL_LOOP: u32 = 1;
+
+const OPERATORS: u32 = 2;
+
+/// The bytes that are read from a stream at a time.
+const PIECE_BYTES: usize = 4_096;
+
+/// What ended a stream.
+#[derive(Clone, Copy, Debug, PartialEq, Eq)]
+pub enum Ending {
+    /// Its end of input.
+    End,
+    /// A read fault.
+    Fault,
+    /// A byte more than a stream may have.
+    Long,
+}
+
+/// What is asked for an item, and by which caller.
+fn asked_for(item: Item) -> (u32, Call)
+    ensures { result ≡ asked_for item }
+{
+    match item {
+        Item::Body(body) => match telegram::read(&body) {
+            Ok(telegram) => (OPERATORS, Call::Telegram(telegram)),
+            Err(reject) => (CONTROL_LOOP, Call::Note(Note::Rejected(reject))),
+        },
+        Item::Damaged(damage) => (CONTROL_LOOP, Call::Note(Note::Damaged(damage))),
+    }
+}
+
+/// Answers an item: its call is the next entry of the history.
+fn take_item(core: &mut Core, item: Item) -> Result<(), NoMemory>
+    requires room { (answered : List FrameItem) × AnswersItems core.old.history answered × (length answered < core.old.limit) }
+    ensures plant { core.new.plant ≡ core.old.plant }
+    ensures limit { core.new.limit ≡ core.old.limit }
+    ensures answered { OnOk result ((answered : List FrameItem) → AnswersItems core.old.history answered
+        → AnswersItems core.new.history (answered ++ item ∷ [])) }
+{
+    let (caller, call) = asked_for(item);
+    core.apply(caller, call)?;
+    Ok(())
+}
+
+/// Answers the items that these bytes of the stream complete.
+fn take_bytes(core: &mut Core, framer: &mut Framer, bytes: &[u8]) -> Result<(), NoMemory>
+    requires room { (fed : List ℕ) × StandsFor framer.old fed × AnswersItems core.old.history (items fed)
+        × (length fed + length bytes.now ≤ MOST_STREAM_BYTES) × (core.old.limit ≡ MOST_ENTRIES) }
+    ensures plant { core.new.plant ≡ core.old.plant }
+    ensures limit { core.new.limit ≡ core.old.limit }
+    ensures answered { OnOk result ((fed : List ℕ) → StandsFor framer.old fed → AnswersItems core.old.history (items fed)
+        → StandsFor framer.new (fed ++ bytes.now) × AnswersItems core.new.history (items (fed ++ bytes.now))) }
+{
+    for byte in bytes {
+        if let Some(item) = framer.feed(*byte) {
+            take_item(core, item)?;
+        }
+    }
+    Ok(())
+}
+
+/// Answers each item of a stream until the stream ends, in whatever pieces its bytes come.
+fn take_stream<S: Source>(core: &mut Core, source: &mut S) -> Result<Ending, NoMemory>
+    requires new { core.old.history ≡ [] }
+    requires limit { core.old.limit ≡ MOST_ENTRIES }
+    ensures plant { core.new.plant ≡ core.old.plant }
+    ensures limit { core.new.limit ≡ core.old.limit }
+    ensures answered { IfOk result (λ ending. (bytes : List ℕ) × Gave (S.left source.old) (S.left source.new) bytes
+        × MayEnd (shown (S.left source.old) (S.left source.new) (S.faults source.old) (S.faults source.new)) bytes ending
+        × AnswersItems core.new.history (items_until ending bytes)) }
+    ensures counted { S.faults source.old ≤ S.faults source.new }
+{
+    let mut framer = Framer::new();
+    let mut piece = [0; PIECE_BYTES];
+    let mut room = MOST_STREAM_BYTES;
+    while let Ok(count) = source.read(&mut piece) {
+        if count == 0 {
+            if let Some(item) = framer.finish() {
+                take_item(core, item)?;
+            }
+            return Ok(Ending::End);
+        }
+        if count > room {
+            take_bytes(core, &mut framer, &piece[..room])?;
+            return Ok(Ending::Long);
+        }
+        take_bytes(core, &mut framer, &piece[..count])?;
+        room -= count;
+    }
+    Ok(Ending::Fault)
+}
+
+/// Hands over each line of the text as a piece of its own.
+fn send_lines<S: Sink>(sink: &mut S, text: &[u8]) -> Result<(), Failed>
+    ensures whole { OnOk result (Grew (S.taken sink.old) (S.taken sink.new) text.now) }
+    ensures part { OnErr result (GrewInPart (S.taken sink.old) (S.taken sink.new) text.now) }
+    ensures failed { OnErr result (Rose (S.faults sink.old) (S.faults sink.new)) }
+    ensures counted { S.faults sink.old ≤ S.faults sink.new }
+{
+    let mut rest = text;
+    while let Some(end) = rest.iter().position(|byte| *byte == b'\n') {
+        let (line, after) = rest.split_at(end + 1);
+        send_all(sink, line)?;
+        rest = after;
+    }
+    send_all(sink, rest)
+}
+
+/// Writes the log of the history, each line as a piece of its own. The error is `WriteFault` or `NoMemory`.
+fn write_log<S: Sink>(alloc: Global, core: &Core, out: &mut S) -> Result<(), RunStatus>
+    ensures whole { OnOk result (Grew (S.taken out.old) (S.taken out.new) (log_text core.now.plant core.now.history)) }
+    ensures part { result ≡ Err RunStatus.WriteFault
+        → GrewInPart (S.taken out.old) (S.taken out.new) (log_text core.now.plant core.now.history) }
+    ensures failed { result ≡ Err RunStatus.WriteFault → Rose (S.faults out.old) (S.faults out.new) }
+    ensures errors { IfErr result IsWriteError }
+    ensures counted { S.faults out.old ≤ S.faults out.new }
+{
+    let head = log_text::log_head(alloc, core.plant())?;
+    send_all(out, head.as_bytes())?;
+    for entry in core.history() {
+        let line = log_text::entry_text(alloc, entry)?;
+        send_all(out, line.as_bytes())?;
+    }
+    Ok(())
+}
+
+/// Writes the report of the history, each line as a piece of its own. The error is `WriteFault` or `NoMemory`.
+fn write_report<S: Sink>(alloc: Global, core: &Core, out: &mut S) -> Result<(), RunStatus>
+    ensures whole { OnOk result (Grew (S.taken out.old) (S.taken out.new) (report_text core.now.plant core.now.history)) }
+    ensures part { result ≡ Err RunStatus.WriteFault
+        → GrewInPart (S.taken out.old) (S.taken out.new) (report_text core.now.plant core.now.history) }
+    ensures failed { result ≡ Err RunStatus.WriteFault → Rose (S.faults out.old) (S.faults out.new) }
+    ensures errors { IfErr result IsWriteError }
+    ensures counted { S.faults out.old ≤ S.faults out.new }
+{
+    let report = log_text::report_text(alloc, core)?;
+    send_lines(out, report.as_bytes())?;
+    Ok(())
+}
+
+/// Writes the log of the history and then its report. The error is `WriteFault` or `NoMemory`.
+fn write_history<S: Sink>(alloc: Global, core: &Core, out: &mut S) -> Result<(), RunStatus>
+    ensures whole { OnOk result (Grew (S.taken out.old) (S.taken out.new) (written core.now.plant core.now.history)) }
+    ensures part { result ≡ Err RunStatus.WriteFault
+        → GrewInPart (S.taken out.old) (S.taken out.new) (written core.now.plant core.now.history) }
+    ensures failed { result ≡ Err RunStatus.WriteFault → Rose (S.faults out.old) (S.faults out.new) }
+    ensures errors { IfErr result IsWriteError }
+    ensures counted { S.faults out.old ≤ S.faults out.new }
+{
+    write_log(alloc, core, out)?;
+    write_report(alloc, core, out)
+}
+
+impl Ending {
+    /// The status of a session whose stream ended so, where all was written.
+    pub fn status(self) -> RunStatus
+        ensures { result ≡ status_of self }
+    {
+        match self {
+            Ending::End => RunStatus::Clear,
+            Ending::Fault => RunStatus::ReadFault,
+            Ending::Long => RunStatus::StreamTooLong,
+        }
+    }
+}
+
+/// A session of the plant over a stream: each item is answered, the session is closed, and its history is written.
+/// The error is `WriteFault` or `NoMemory`.
+pub fn session<S: Source, O: Sink>(
+    alloc: Global,
+    plant: Plant,
+    source: &mut S,
+    out: &mut O,
+) -> Result<Ending, RunStatus>
+    ensures ended { IfOk result (λ ending. WritesWhole plant ending
+        (shown (S.left source.old) (S.left source.new) (S.faults source.old) (S.faults source.new))
+        (shown (O.taken out.old) (O.taken out.new) (O.faults out.old) (O.faults out.new))) }
+    ensures cut { result ≡ Err RunStatus.WriteFault → WritesPart plant
+        (shown (S.left source.old) (S.left source.new) (S.faults source.old) (S.faults source.new))
+        (shown (O.taken out.old) (O.taken out.new) (O.faults out.old) (O.faults out.new)) }
+    ensures failed { result ≡ Err RunStatus.WriteFault → Rose (O.faults out.old) (O.faults out.new) }
+    ensures errors { IfErr result IsWriteError }
+{
+    let mut core = Core::start(alloc, plant, MOST_ENTRIES)?;
+    let ending = take_stream(&mut core, source)?;
+    core.apply(SESSION, Call::Close)?;
+    write_history(alloc, &core, out)?;
+    Ok(ending)
+}
