@@ -1,5 +1,5 @@
 -- The words of the command line: which have a written form, and what the form says.
-use Rattle.std.specs.Prelude.{ℕ, ◌<◌, List, [], ◌∷◌, ◌++◌, length, Bool, not, ◌&&◌, ◌==◌, nat_lt, slice_index, Result, Ok, Err, if◌then◌else◌, codes}
+use Rattle.std.specs.Prelude.{ℕ, ◌<◌, List, [], ◌∷◌, ◌++◌, length, Bool, not, ◌&&◌, ◌==◌, nat_lt, slice_index, slice_index_or, Option, Some, None, Result, Ok, Err, if◌then◌else◌, codes}
 use Rattle.std.specs.List.{filter, enumerate_from, before_first, after_first}
 use Rattle.std.specs.Str.{bytes_eq}
 use Rattle.dp_cli.specs.declared.dp_words.Form.{Form}
@@ -52,3 +52,8 @@ IsWithin (Replay plant telegrams) count = (plant < count) × (telegrams < count)
 -- the place of the plant's word
 abbrev pub plant_place : Form → ℕ
 plant_place (Replay plant telegrams) = plant
+
+-- the word at a place, or an empty one where there is none
+abbrev pub word_at : List (List ℕ) → Option ℕ → List ℕ
+word_at words None = []
+word_at words (Some place) = slice_index_or words place []

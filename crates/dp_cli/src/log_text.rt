@@ -1,6 +1,6 @@
 //! The texts of a history: its log, a line for each entry, and its report.
 ghost use Rattle.std.specs.Prelude.{◌≡◌, ◌++◌, IfOk, OnOk, string_bytes};
-ghost use Rattle.dp_cli.specs.Texts.{caller_text, call_text, reply_text, entry_text, log_head, report_head, group_text, report_text};
+ghost use Rattle.dp_cli.specs.Texts.{caller_text, call_text, reply_text, entry_text, log_head, group_text, report_text};
 
 use dp_io::NoMemory;
 use plant_core::{Call, Core, Entry, Note, Reply, telegram};

@@ -1,6 +1,9 @@
 //! `dp`: a dynamic positioning controller with consequence analysis.
 #![tactic(auto)]
 
+ghost use Rattle.std.specs.Prelude.{◌≡◌, map, string_bytes};
+ghost use Rattle.dp_cli.specs.Words.{word_at};
+
 pub mod dp_words;
 pub mod log_text;
 mod replay;
@@ -58,9 +61,11 @@ fn main(rt: HostRuntime) -> ExitCode {
 }
 
 /// The word at the place, or an empty one. The source of a place that isn't there is never read.
-fn word(words: &[String], place: Option<usize>) -> &str {
-    match place.and_then(|place| words.get(place)) {
-        Some(word) => word.as_str(),
-        None => "",
+fn word(words: &[String], place: Option<usize>) -> &str
+    ensures { result.now ≡ word_at (map string_bytes words.now) place }
+{
+    match place {
+        Some(place) if place < words.len() => words[place].as_str(),
+        _ => "",
     }
 }

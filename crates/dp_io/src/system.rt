@@ -188,7 +188,6 @@ mod tests {
     use super::*;
     use crate::stream::send_all;
     use std::test::Fail;
-    use std::{env, process};
 
     #[test]
     fn reads_a_file_to_its_end(rt: HostRuntime) -> Result<(), Fail> {

@@ -1,5 +1,5 @@
 //! The framer: fed the bytes of a stream one by one, it gives the stream's items.
-ghost use Rattle.std.specs.Prelude.{◌≡◌, List, ℕ, [], ◌∷◌, ◌++◌, Option, Some, None, length};
+ghost use Rattle.std.specs.Prelude.{◌≡◌, List, ℕ, [], ◌∷◌, ◌++◌, Some};
 ghost use Rattle.std.specs.Option.{option_to_list};
 ghost use Rattle.frame.specs.Frames.{StandsFor, items, items_end, item_of_line};
 

@@ -9,7 +9,7 @@ pub use dp_io::NoMemory;
 use plant_model::limits::MOST_ENTRIES;
 use plant_model::plant::Plant;
 use plant_model::status::Version;
-use std::alloc::{AllocFailed, Global};
+use std::alloc::Global;
 use std::marker::Model;
 
 /// What the machine is in between two calls.
@@ -47,7 +47,7 @@ impl Model for Core {
 
 impl Core {
     /// The plant at its opening, with nothing asked of the thrusters and no call answered. The limit of telegrams
-    /// and notes is from 1 to [`MOST_ENTRIES`].
+    /// and notes is at most [`MOST_ENTRIES`].
     pub fn start(alloc: Global, plant: Plant, limit: u32) -> Result<Core, NoMemory>
         requires { limit ≤ MOST_ENTRIES }
         ensures { IfOk result (λ core. core ≡ record { plant = plant; limit = limit; history = [] }) }
