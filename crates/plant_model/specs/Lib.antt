@@ -1,5 +1,7 @@
 pub mod Demo
+pub mod Lies
 pub mod Names
 pub mod Numbers
 pub mod Plants
+pub mod Rings
 pub mod Versions

@@ -1,23 +1,55 @@
 //! The built-in plant.
-ghost use Rattle.std.specs.Prelude.{◌≡◌, [], ◌∷◌, IsTrue};
+ghost use Rattle.std.specs.Prelude.{◌≡◌, ◌≤◌, [], ◌∷◌, length, IsTrue};
 ghost use Rattle.plant_model.specs.Names.{is_name};
-ghost use Rattle.plant_model.specs.Demo.{demo_parts, demo_sections, demo_ties, demo_generators, demo_thrusters, demo_groups, demo_opening};
+ghost use Rattle.plant_model.specs.Demo.{demo_parts, demo_gains, demo_sections, demo_ties, demo_generators, demo_tunnel, demo_azimuth, demo_thrusters, demo_groups, demo_opening};
 
-use crate::limits::{MOST_GENERATORS, MOST_GROUPS, MOST_SECTIONS, MOST_THRUSTERS, MOST_TIES};
+use crate::controller::Gains;
+use crate::limits::{
+    AXES, MOST_GENERATORS, MOST_GROUPS, MOST_PIECE_POINTS, MOST_RING_POINTS, MOST_SECTIONS,
+    MOST_THRUSTERS, MOST_TIES, THRESHOLDS,
+};
 use crate::name::Name;
 use crate::parts::{Generator, Group, Member, Thruster, Tie};
 use crate::plant::{Parts, Plant};
 use crate::status::Status;
+use crate::thrust::{Piece, Pieces, Point, Ring};
 use arrayvec::ArrayVec;
+use wind::WIND;
+
+pub mod wind;
 
 /// What each generator gives, in kW.
 const POWER: u32 = 4_000;
+
+/// What each thruster takes at full thrust, in kW.
+const RATED: u32 = 2_000;
+
+/// Each quarter of the power gives a quarter of the thrust.
+const EVEN_THRESHOLDS: [u32; THRESHOLDS] = [25, 50, 75, 100];
 
 fn name(text: &[u8]) -> Name
     requires { IsTrue (is_name text.now) }
     ensures { result ≡ text.now }
 {
     Name::of(text).unwrap()
+}
+
+fn gains() -> [Gains; AXES]
+    ensures { result ≡ demo_gains }
+{
+    let along = Gains {
+        kp: 200,
+        ki: 10,
+        kd: 500,
+        limit: 1_000_000_000,
+    };
+    let yaw = Gains {
+        kp: 200_000,
+        ki: 1_000,
+        kd: 500_000,
+        limit: 1_000_000_000,
+    };
+    [along, along, yaw]
 }
 
 fn sections() -> ArrayVec<Name, MOST_SECTIONS>
@@ -63,14 +95,67 @@ fn generators() -> ArrayVec<Generator, MOST_GENERATORS>
     generators
 }
 
-fn thruster(text: &[u8], section: u32) -> Thruster
-    requires { IsTrue (is_name text.now) }
-    ensures named { result.name ≡ text.now }
-    ensures fed { result.section ≡ section }
+fn ring(points: &[Point]) -> Ring
+    requires { length points.now ≤ MOST_RING_POINTS }
+    ensures { result.points.items ≡ points.now }
 {
+    let mut ring = Ring::default();
+    ring.points.try_extend_from_slice(points).unwrap();
+    ring
+}
+
+fn piece(points: &[Point]) -> Piece
+    requires { length points.now ≤ MOST_PIECE_POINTS }
+    ensures { result.points.items ≡ points.now }
+{
+    let mut piece = Piece::default();
+    piece.points.try_extend_from_slice(points).unwrap();
+    piece
+}
+
+/// A tunnel thruster, which gives up to 200 kN to port or to starboard.
+fn tunnel(text: &[u8], section: u32, lever: Point) -> Thruster
+    requires { IsTrue (is_name text.now) }
+    ensures { result ≡ demo_tunnel text.now section lever }
+{
+    let across = [Point { x: 0, y: -200 }, Point { x: 0, y: 200 }];
+    let mut pieces = Pieces::default();
+    pieces.list.push(piece(&across));
     Thruster {
         name: name(text),
         section,
+        lever,
+        rated: RATED,
+        thresholds: EVEN_THRESHOLDS,
+        ring: ring(&across),
+        sectors: ArrayVec::new(),
+        pieces,
+        frozen: None,
+    }
+}
+
+/// An azimuth thruster, which gives up to 400 kN along each axis, and less between them.
+fn azimuth(text: &[u8], section: u32, lever: Point) -> Thruster
+    requires { IsTrue (is_name text.now) }
+    ensures { result ≡ demo_azimuth text.now section lever }
+{
+    let ahead = Point { x: 400, y: 0 };
+    let starboard = Point { x: 0, y: 400 };
+    let astern = Point { x: -400, y: 0 };
+    let port = Point { x: 0, y: -400 };
+    let mut pieces = Pieces::default();
+    pieces.list.push(piece(&[ahead, starboard, astern]));
+    pieces.list.push(piece(&[astern, port, ahead]));
+    Thruster {
+        name: name(text),
+        section,
+        lever,
+        rated: RATED,
+        thresholds: EVEN_THRESHOLDS,
+        ring: ring(&[ahead, starboard, astern, port]),
+        sectors: ArrayVec::new(),
+        pieces,
+        frozen: None,
     }
 }
 
@@ -78,10 +163,10 @@ fn thrusters() -> ArrayVec<Thruster, MOST_THRUSTERS>
     ensures { result.items ≡ demo_thrusters }
 {
     let mut thrusters = ArrayVec::new();
-    thrusters.push(thruster(b"BOW1", 0));
-    thrusters.push(thruster(b"BOW2", 1));
-    thrusters.push(thruster(b"PORT", 0));
-    thrusters.push(thruster(b"STBD", 1));
+    thrusters.push(tunnel(b"BOW1", 0, Point { x: 400, y: 0 }));
+    thrusters.push(tunnel(b"BOW2", 1, Point { x: 360, y: 0 }));
+    thrusters.push(azimuth(b"PORT", 0, Point { x: -400, y: -100 }));
+    thrusters.push(azimuth(b"STBD", 1, Point { x: -400, y: 100 }));
     thrusters
 }
 
@@ -116,17 +201,21 @@ fn opening() -> Status
         ],
         running: [true, true, false, false, false, false, false, false],
         closed: [false; MOST_TIES],
+        barred: [0; MOST_THRUSTERS],
     }
 }
 
 /// The demo plant: two sections with an open tie between them, and on each a running generator, a tunnel
 /// thruster at the bow and an azimuth at the stern, all selected. Group GA is the loss of section A, and GB
-/// that of section B.
+/// that of section B. The wind table is [`wind::WIND`].
 pub fn demo() -> Plant
     ensures { result ≡ demo_parts }
 {
     Plant::of(Parts {
         name: name(b"DEMO"),
+        band: [15, 15, 10_000],
+        gains: gains(),
+        wind: WIND,
         sections: sections(),
         ties: ties(),
         generators: generators(),
@@ -141,22 +230,6 @@ mod tests {
     use super::*;
     use std::test::Fail;
 
-    const THRUSTERS: &str = "[Thruster { name: \"BOW1\", section: 0 }, \
-        Thruster { name: \"BOW2\", section: 1 }, \
-        Thruster { name: \"PORT\", section: 0 }, \
-        Thruster { name: \"STBD\", section: 1 }]";
-
-    const GENERATORS: &str = "[Generator { name: \"G1\", section: 0, power: 4000 }, \
-        Generator { name: \"G2\", section: 1, power: 4000 }]";
-
-    const GROUPS: &str = "[Group { name: \"GA\", members: [Section(0)] }, \
-        Group { name: \"GB\", members: [Section(1)] }]";
-
-    const OPENING: &str = "Status { selected: [true, true, true, true, \
-        false, false, false, false, false, false, false, false], \
-        running: [true, true, false, false, false, false, false, false], \
-        closed: [false, false, false, false, false, false, false, false] }";
-
     #[test]
     fn feeds_thrusters_from_their_sections(rt: HostRuntime) -> Result<(), Fail> {
         let plant = demo();
@@ -168,21 +241,10 @@ mod tests {
             ties.as_str(),
             "[Tie { name: \"T1\", first: 0, second: 1 }]"
         );
-        let thrusters = format!(in alloc; "{:?}", plant.thrusters())?;
-        assert_eq!(rt; thrusters.as_str(), THRUSTERS);
-        Ok(())
-    }
-
-    #[test]
-    fn opens_with_all_running(rt: HostRuntime) -> Result<(), Fail> {
-        let plant = demo();
-        let alloc = rt.alloc();
-        let generators = format!(in alloc; "{:?}", plant.generators())?;
-        assert_eq!(rt; generators.as_str(), GENERATORS);
-        let groups = format!(in alloc; "{:?}", plant.groups())?;
-        assert_eq!(rt; groups.as_str(), GROUPS);
-        let opening = format!(in alloc; "{:?}", plant.opening())?;
-        assert_eq!(rt; opening.as_str(), OPENING);
+        for (thruster, place) in plant.thrusters().iter().zip(0u32..) {
+            assert_eq!(rt; thruster.section, place % 2);
+            assert_eq!(rt; thruster.frozen, None);
+        }
         Ok(())
     }
 }

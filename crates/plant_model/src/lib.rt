@@ -10,4 +10,5 @@ pub mod name;
 pub mod parts;
 pub mod plant;
 pub mod status;
+pub mod thrust;
 pub mod wrench;

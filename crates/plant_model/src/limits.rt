@@ -9,23 +9,62 @@ pub const MOST_GENERATORS: usize = 8;
 /// The thrusters of a plant: 1 to this many.
 pub const MOST_THRUSTERS: usize = 12;
 /// The redundancy groups of a plant: 1 to this many.
-pub const MOST_GROUPS: usize = 8;
+pub const MOST_GROUPS: usize = 16;
+/// The redundancy groups that a plant file of format 1 may have.
+pub const MOST_GROUPS_OF_FORMAT_1: usize = 8;
 /// The members of a redundancy group: 1 to as many as a plant has parts.
 pub const MOST_MEMBERS: usize = 36;
-/// The power of a generator, in kW: 1 to this much.
+/// The power of a generator and the rated power of a thruster, in kW: 1 to this much.
 pub const MOST_POWER: u32 = 100_000;
 /// The bytes of a name: 1 to this many.
 pub const MOST_NAME_BYTES: usize = 12;
 
+/// The farthest lever of a thruster along an axis, either way, in dm.
+pub const FARTHEST_LEVER: i32 = 1_600;
+/// The greatest thrust of one thruster along an axis, either way, in kN.
+pub const MOST_THRUST: i32 = 2_000;
+/// A thruster gives from none to all of this many quarters of its thrust. The coordinates of a ring's points
+/// are multiples of it, so that each quarter of them is whole.
+pub const QUARTERS: u32 = 4;
+/// The thresholds of a thruster, one for each quarter.
+pub const THRESHOLDS: usize = 4;
+/// The greatest threshold of a share, in percent; the least is 1.
+pub const MOST_THRESHOLD: u32 = 100;
+/// The fewest points of a ring.
+pub const FEWEST_RING_POINTS: usize = 2;
+/// The points of a ring.
+pub const MOST_RING_POINTS: usize = 16;
+/// The forbidden sectors of a thruster: 0 to this many.
+pub const MOST_SECTORS: usize = 8;
+/// The pieces of a thruster: 1 to this many.
+pub const MOST_PIECES: usize = 16;
+/// The points of a piece beside the origin.
+pub const MOST_PIECE_POINTS: usize = 8;
+/// The choices of one piece for each thruster that a plant may leave.
+pub const MOST_CHOICES: usize = 64;
+
+/// The greatest gain of a controller.
+pub const MOST_GAIN: u32 = 1_000_000_000;
+/// The greatest limit of a controller's sum.
+pub const MOST_SUM_LIMIT: u64 = 1_000_000_000_000;
+/// The greatest wind coefficient along x and along y, either way.
+pub const MOST_WIND_FORCE: i32 = 100_000;
+/// The greatest wind coefficient in yaw, either way.
+pub const MOST_WIND_MOMENT: i32 = 100_000_000;
+
+/// The bytes of a plant file.
+pub const MOST_PLANT_BYTES: usize = 1_048_576;
 /// The entries of telegrams and notes that a session's history holds.
 pub const MOST_ENTRIES: u32 = 50_000;
 /// The bytes of a telegram stream.
 pub const MOST_STREAM_BYTES: usize = 65_536;
 
-/// The greatest demand along x and along y, ahead or astern, in kN.
+/// The greatest demand along x and along y, ahead or astern, in kN: that of all thrusters.
 pub const MOST_FORCE: i32 = 24_000;
-/// The greatest demand in yaw, either way, in kN·dm.
+/// The greatest demand in yaw, either way, in kN·dm: that of all thrusters at the farthest levers.
 pub const MOST_MOMENT: i32 = 76_800_000;
+/// The axes of a demand: x, y and yaw.
+pub const AXES: usize = 3;
 
 /// The farthest position from the origin along an axis, in cm.
 pub const MOST_POSITION: i32 = 10_000_000;

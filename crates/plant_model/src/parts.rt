@@ -2,8 +2,9 @@
 //!
 //! Sections, ties, generators, thrusters and groups are numbered by their places in the plant, from 0.
 
-use crate::limits::MOST_MEMBERS;
+use crate::limits::{MOST_MEMBERS, MOST_SECTORS, THRESHOLDS};
 use crate::name::Name;
+use crate::thrust::{Pieces, Point, Ring, Sector};
 use arrayvec::ArrayVec;
 
 /// A bus tie: it joins two sections of the switchboard where it is closed.
@@ -31,6 +32,21 @@ pub struct Thruster {
     pub name: Name,
     /// The section that feeds it.
     pub section: u32,
+    /// Where it stands, in dm.
+    pub lever: Point,
+    /// What it takes at full thrust, in kW: 1 to [`crate::limits::MOST_POWER`].
+    pub rated: u32,
+    /// The least shares of power, in percent, at which it may give one to four quarters of its thrust: 1 to
+    /// [`crate::limits::MOST_THRESHOLD`], none less than the one before.
+    pub thresholds: [u32; THRESHOLDS],
+    /// What it can give at full power: see [`crate::thrust`].
+    pub ring: Ring,
+    /// The sectors of the ring that it may not use.
+    pub sectors: ArrayVec<Sector, MOST_SECTORS>,
+    /// The convex pieces into which the sectors cut the ring.
+    pub pieces: Pieces,
+    /// The thrust at which it stays where it fails by itself. None where it then gives nothing.
+    pub frozen: Option<Point>,
 }
 
 /// A part that a redundancy group has.

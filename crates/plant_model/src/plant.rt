@@ -2,7 +2,10 @@
 ghost use Rattle.std.specs.Prelude.{◌≡◌, IsTrue};
 ghost use Rattle.plant_model.specs.Plants.{is_plant};
 
-use crate::limits::{MOST_GENERATORS, MOST_GROUPS, MOST_SECTIONS, MOST_THRUSTERS, MOST_TIES};
+use crate::controller::{Gains, WindRow};
+use crate::limits::{
+    AXES, MOST_GENERATORS, MOST_GROUPS, MOST_SECTIONS, MOST_THRUSTERS, MOST_TIES, WIND_ROWS,
+};
 use crate::name::Name;
 use crate::parts::{Generator, Group, Thruster, Tie};
 use crate::status::Status;
@@ -13,6 +16,12 @@ use std::marker::Model;
 #[derive(Debug, Drop)]
 pub struct Parts {
     pub name: Name,
+    /// How far a demand may move along each axis before a new version is made: kN, kN and kN·dm.
+    pub band: [u32; AXES],
+    /// The controller's gains of surge, sway and yaw.
+    pub gains: [Gains; AXES],
+    /// The wind coefficients at every ten degrees from the bow towards starboard.
+    pub wind: [WindRow; WIND_ROWS],
     /// The sections of the switchboard.
     pub sections: ArrayVec<Name, MOST_SECTIONS>,
     pub ties: ArrayVec<Tie, MOST_TIES>,
@@ -25,8 +34,9 @@ pub struct Parts {
 
 /// A plant whose parts fit together: there is a section, a thruster and a group; no two sections, ties,
 /// generators and thrusters have one name, and no two groups; each section, tie, generator and thruster that a
-/// part names is there; a tie has two different ends; a group has members, none of them twice.
-/// Contracts see its parts.
+/// part names is there; a tie has two different ends; a group has members, none of them twice. All numbers are
+/// within their limits, each ring is convex round the origin, its sectors cover no edge twice, and each
+/// thruster's pieces are those into which its sectors cut its ring. Contracts see its parts.
 #[derive(Debug, Drop)]
 pub struct Plant {
     parts: Parts,
@@ -57,6 +67,27 @@ impl Plant {
         ensures { result.now ≡ self.now.name }
     {
         &self.parts.name
+    }
+
+    /// How far a demand may move along each axis before a new version is made: kN, kN and kN·dm.
+    pub fn band(&self) -> &[u32; AXES]
+        ensures { result.now ≡ self.now.band }
+    {
+        &self.parts.band
+    }
+
+    /// The controller's gains of surge, sway and yaw.
+    pub fn gains(&self) -> &[Gains; AXES]
+        ensures { result.now ≡ self.now.gains }
+    {
+        &self.parts.gains
+    }
+
+    /// The wind coefficients at every ten degrees from the bow towards starboard.
+    pub fn wind(&self) -> &[WindRow; WIND_ROWS]
+        ensures { result.now ≡ self.now.wind }
+    {
+        &self.parts.wind
     }
 
     /// The sections of the switchboard.
