@@ -75,6 +75,10 @@ pub const WHOLE_TURN: u32 = 36_000;
 pub const HALF_TURN: u32 = WHOLE_TURN / 2;
 /// The centidegrees of a quarter of a turn, a right angle.
 pub const QUARTER_TURN: u32 = WHOLE_TURN / 4;
+/// The last moment of time, in ms from any start.
+pub const LAST_MOMENT: u32 = u32::MAX;
+/// The last number of an alarm; the first is 1.
+pub const LAST_ALARM: u32 = u32::MAX;
 /// The greatest wind speed, in dm/s.
 pub const MOST_WIND_SPEED: u32 = 1_000;
 /// The rows of a wind table, one for each ten degrees.
