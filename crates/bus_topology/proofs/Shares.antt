@@ -7,7 +7,7 @@ use Rattle.std.proofs.lemmas.List.{get_or_default, get_or_past}
 use Rattle.plant_model.specs.declared.limits.TheConstants.{MOST_SECTIONS}
 use Rattle.plant_model.specs.declared.plant.Parts.{Parts}
 use Rattle.plant_model.specs.declared.status.Standing.{Standing}
-use Rattle.bus_topology.specs.Islands.{AreConnected, IsIslandMap, IsLive}
+use Rattle.bus_topology.specs.Islands.{AreConnected, IsIslandMap, IsLive, has_number}
 use Rattle.bus_topology.specs.Shares.{IsShare, TestsConnection, power_on, rated_on}
 use Rattle.bus_topology.proofs.Connections.{connected_with_itself, AreConnected-sym, AreConnected-trans, live_from_connected}
 use Rattle.bus_topology.proofs.Maps.{live_or_not}
@@ -62,20 +62,20 @@ module _ (p : Parts) (s : Standing) (of : List ℕ) (long : length of ≡ MOST_S
       number_is n kept ∙ same ∙ sym (number_is section live)
 
   -- the numbers test connection with the section
-  numbers_test : TestsConnection p s section (λ n. slice_index_or of n MOST_SECTIONS == slice_index_or of section MOST_SECTIONS)
+  numbers_test : TestsConnection p s section (has_number of (slice_index_or of section MOST_SECTIONS))
   numbers_test n =
       let decides = Decides-eqb (slice_index_or of n MOST_SECTIONS) (slice_index_or of section MOST_SECTIONS) in
       (λ passes. connected_from_number n (decides.0 passes), λ h. decides.1 (number_from_connected n h))
 
   -- the share, from what the parts with the section's number give and take
-  module _ (parts : Parts) (number rated : ℕ) (are_parts : parts ≡ p) (is_number : number ≡ slice_index_or of section MOST_SECTIONS) (is_rated : rated ≡ rated_on parts s (λ n. slice_index_or of n MOST_SECTIONS == number)) where
-    rated_is : rated ≡ rated_on p s (λ n. slice_index_or of n MOST_SECTIONS == slice_index_or of section MOST_SECTIONS)
-    rated_is = is_rated ∙ ap₂ (λ q m. rated_on q s (λ n. slice_index_or of n MOST_SECTIONS == m)) are_parts is_number
+  module _ (parts : Parts) (number rated : ℕ) (are_parts : parts ≡ p) (is_number : number ≡ slice_index_or of section MOST_SECTIONS) (is_rated : rated ≡ rated_on parts s (has_number of number)) where
+    rated_is : rated ≡ rated_on p s (has_number of (slice_index_or of section MOST_SECTIONS))
+    rated_is = is_rated ∙ ap₂ (λ q m. rated_on q s (has_number of m)) are_parts is_number
 
     pub no_share : rated ≡ 0 → IsShare p s section 0
     no_share none = (_, numbers_test, no_quotient _ _ (sym rated_is ∙ none))
 
-    pub some_share : (power : ℕ) → power ≡ power_on parts s (λ n. slice_index_or of n MOST_SECTIONS == number) → rated ≢ 0 → IsShare p s section (100 * power / rated)
+    pub some_share : (power : ℕ) → power ≡ power_on parts s (has_number of number) → rated ≢ 0 → IsShare p s section (100 * power / rated)
     some_share power is_power some =
-        let power_is = is_power ∙ ap₂ (λ q m. power_on q s (λ n. slice_index_or of n MOST_SECTIONS == m)) are_parts is_number in
+        let power_is = is_power ∙ ap₂ (λ q m. power_on q s (has_number of m)) are_parts is_number in
         (_, numbers_test, ap₂ (λ given taken. 100 * given / taken) power_is rated_is ∙ some_quotient _ _ (λ none. some (rated_is ∙ none)))

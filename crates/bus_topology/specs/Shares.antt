@@ -21,7 +21,8 @@ power_on p s is_on = total_of (λ g. is_on g.section) (λ g. g.power) p.generato
 abbrev pub rated_on : Parts → Standing → (ℕ → Bool) → ℕ
 rated_on p s is_on = total_of (λ t. is_on t.section) (λ t. t.rated) p.thrusters.items s.selected
 
--- how much of what the thrusters take the generators give, in percent and rounded down; 0 where they take none
+-- how much the generators give of what the thrusters take, in percent and rounded down; 0 where the
+-- thrusters take nothing
 abbrev pub share_on : Parts → Standing → (ℕ → Bool) → ℕ
 share_on p s is_on =
     let rated = rated_on p s is_on in
@@ -29,7 +30,8 @@ share_on p s is_on =
 
 -- the test passes exactly the sections that are connected with this one
 abbrev pub TestsConnection : Parts → Standing → ℕ → (ℕ → Bool) → Type 0
-TestsConnection p s section is_on = (other : ℕ) → IsTrue (is_on other) ↔ AreConnected p s section other
+TestsConnection p s section is_on =
+    (other : ℕ) → IsTrue (is_on other) ↔ AreConnected p s section other
 
 -- the share on the sections that are connected with this one
 abbrev pub IsShare : Parts → Standing → ℕ → ℕ → Type 0

@@ -9,14 +9,14 @@ use plant_model::status::Standing;
 /// The number of no island.
 pub(crate) const NO_ISLAND: u32 = MOST_SECTIONS as u32;
 
-/// The island of each section, by the section's place. An island has the number of its least section. Places of
-/// sections that are lost or not there have the number `MOST_SECTIONS`.
+/// The island of each section, by the section's place. An island has the number of its least
+/// section. Places of sections that are lost or not there have the number `MOST_SECTIONS`.
 #[derive(Clone, Copy, Debug, PartialEq, Eq)]
 pub struct IslandMap {
     pub of: [u32; MOST_SECTIONS],
 }
 
-/// The islands of a plant as it stands.
+/// The islands of a plant as it stands. A lost tie is open in the standing.
 pub fn islands(plant: &Plant, standing: &Standing) -> IslandMap
     ensures { IsIslandMap plant.now standing.now result.of }
 {

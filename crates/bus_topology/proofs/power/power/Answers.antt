@@ -3,6 +3,7 @@ use Rattle.std.proofs.lemmas.Bool.Decides.{Decides-eqb, nat_tests}
 use Rattle.plant_model.specs.declared.limits.TheConstants.{MOST_POWER}
 use Rattle.plant_model.specs.declared.parts.Generator.{Generator}
 use Rattle.bus_topology.specs.declared.map.TheConstants.{NO_ISLAND}
+use Rattle.bus_topology.specs.Islands.{has_number}
 use Rattle.bus_topology.proofs.Plants.{power_within}
 use Rattle.bus_topology.proofs.Totals.{IsTotalSoFar, counted_more, left_more, total_when_taken}
 use Rattle.bus_topology.proofs.power.power.Goals as goal
@@ -25,7 +26,7 @@ loop-place-preserved c =
     let here : c.loop-place.place < length c.args.parts.now.generators.items = omega arith in
     let within : c.loop-place.place < length c.args.standing.now.running = search rules in
     let small = power_within c.args.parts.now c.requires c.loop-place.place c.generator-item.result here is_part in
-    let on_island : Generator → Bool = λ g. slice_index_or c.args.islands.now.of g.section NO_ISLAND == c.args.island in
+    let on_island : Generator → Bool = λ g. has_number c.args.islands.now.of c.args.island g.section in
     let value : Generator → ℕ = λ g. g.power in
     let after = IsTotalSoFar on_island value c.args.parts.now.generators.items c.args.standing.now.running (c.loop-place.place + 1) in
     elim c.if-standing-place.branch [
@@ -48,4 +49,4 @@ pub returns-clause-value : goal.returns-clause-value
 returns-clause-value c =
     let items : c.deref-generator-items.result.now ≡ c.args.parts.now.generators.items = c.deref-generator-items.ensures.0 in
     let all = ap length items in
-    total_when_taken (λ (g : Generator). slice_index_or c.args.islands.now.of g.section NO_ISLAND == c.args.island) (λ (g : Generator). g.power) c.args.parts.now.generators.items c.args.standing.now.running c.loop-place.place c.loop-place.power (omega arith) c.loop-place.invariant
+    total_when_taken (λ (g : Generator). has_number c.args.islands.now.of c.args.island g.section) (λ (g : Generator). g.power) c.args.parts.now.generators.items c.args.standing.now.running c.loop-place.place c.loop-place.power (omega arith) c.loop-place.invariant

@@ -3,6 +3,7 @@ use Rattle.std.proofs.lemmas.Bool.Decides.{Decides-eqb, nat_tests}
 use Rattle.plant_model.specs.declared.limits.TheConstants.{MOST_POWER}
 use Rattle.plant_model.specs.declared.parts.Thruster.{Thruster}
 use Rattle.bus_topology.specs.declared.map.TheConstants.{NO_ISLAND}
+use Rattle.bus_topology.specs.Islands.{has_number}
 use Rattle.bus_topology.proofs.Plants.{rated_within}
 use Rattle.bus_topology.proofs.Totals.{IsTotalSoFar, counted_more, left_more, total_when_taken}
 use Rattle.bus_topology.proofs.power.rated.Goals as goal
@@ -25,7 +26,7 @@ loop-place-preserved c =
     let here : c.loop-place.place < length c.args.parts.now.thrusters.items = omega arith in
     let within : c.loop-place.place < length c.args.standing.now.selected = search rules in
     let small = rated_within c.args.parts.now c.requires c.loop-place.place c.thruster-item.result here is_part in
-    let on_island : Thruster → Bool = λ t. slice_index_or c.args.islands.now.of t.section NO_ISLAND == c.args.island in
+    let on_island : Thruster → Bool = λ t. has_number c.args.islands.now.of c.args.island t.section in
     let value : Thruster → ℕ = λ t. t.rated in
     let after = IsTotalSoFar on_island value c.args.parts.now.thrusters.items c.args.standing.now.selected (c.loop-place.place + 1) in
     elim c.if-standing-place.branch [
@@ -48,4 +49,4 @@ pub returns-clause-value : goal.returns-clause-value
 returns-clause-value c =
     let items : c.deref-thruster-items.result.now ≡ c.args.parts.now.thrusters.items = c.deref-thruster-items.ensures.0 in
     let all = ap length items in
-    total_when_taken (λ (t : Thruster). slice_index_or c.args.islands.now.of t.section NO_ISLAND == c.args.island) (λ (t : Thruster). t.rated) c.args.parts.now.thrusters.items c.args.standing.now.selected c.loop-place.place c.loop-place.rated (omega arith) c.loop-place.invariant
+    total_when_taken (λ (t : Thruster). has_number c.args.islands.now.of c.args.island t.section) (λ (t : Thruster). t.rated) c.args.parts.now.thrusters.items c.args.standing.now.selected c.loop-place.place c.loop-place.rated (omega arith) c.loop-place.invariant
