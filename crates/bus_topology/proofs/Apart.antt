@@ -5,7 +5,7 @@ use Rattle.std.proofs.lemmas.List.{length-set, get_or-set_same, get_or-set_other
 use Rattle.plant_model.specs.declared.limits.TheConstants.{MOST_SECTIONS}
 use Rattle.plant_model.specs.declared.plant.Parts.{Parts}
 use Rattle.plant_model.specs.declared.status.Standing.{Standing}
-use Rattle.bus_topology.specs.Islands.{AreConnected, IsLive, IsMapSoFar}
+use Rattle.bus_topology.specs.Islands.{AreConnected, IsMapSoFar}
 use Rattle.bus_topology.proofs.Connections.{connected_with_itself}
 
 -- the first so many places have their own number where they are kept, and all others the number of none

@@ -1,11 +1,11 @@
 -- Connected is an equivalence of live sections, and what is the same for joined sections is so for connected ones.
-use Rattle.std.proofs.Common.{◌≡◌, ℕ, zero, suc, ◌+◌, ◌-◌, ◌<◌, ◌⊎◌, List, [], ◌∷◌, length, get_or, Option, Some, None, inl, inr, refl, sym, ◌∙◌, subst, arith, All, slice_get, IsSomeAnd}
+use Rattle.std.proofs.Common.{◌≡◌, ℕ, zero, suc, ◌+◌, ◌-◌, ◌<◌, List, [], ◌∷◌, length, get_or, Option, Some, None, inl, inr, refl, sym, ◌∙◌, subst, arith, IsSomeAnd}
 use Rattle.std.proofs.lemmas.List.Elements.{All-nil, All-cons, All-head, All-tail}
 use Rattle.std.proofs.lemmas.Option.{none-some, same_Some, slice_get_within, get_or_from_slice_get}
 use Rattle.plant_model.specs.declared.parts.Tie.{Tie}
 use Rattle.plant_model.specs.declared.plant.Parts.{Parts}
 use Rattle.plant_model.specs.declared.status.Standing.{Standing}
-use Rattle.bus_topology.specs.Islands.{IsLive, HasEnds, Joins, AreJoined, IsChain, AreConnected}
+use Rattle.bus_topology.specs.Islands.{IsLive, HasEnds, AreJoined, IsChain, AreConnected}
 
 -- a way from section to section, tie by tie
 data Walk (p : Parts) (s : Standing) : ℕ → ℕ → Type 0 where

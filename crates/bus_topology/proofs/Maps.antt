@@ -1,5 +1,5 @@
 -- The map of islands, as ties are taken in turn.
-use Rattle.std.proofs.Common.{◌≡◌, ◌≢◌, ◌∙◌, ℕ, ◌+◌, ◌<◌, ◌≤◌, ◌==◌, ◌⊎◌, min, max, Bool, true, false, List, length, map, get_or, slice_get, Option, Some, None, IsSomeAnd, if◌then◌else◌, inl, inr, refl, sym, ap, subst, arith}
+use Rattle.std.proofs.Common.{◌≡◌, ◌≢◌, ◌∙◌, ℕ, ◌+◌, ◌<◌, ◌≤◌, ◌⊎◌, min, max, Bool, true, false, List, length, map, get_or, slice_get, Option, Some, None, IsSomeAnd, inl, inr, refl, sym, ap, subst, arith}
 use Rattle.std.proofs.Math.ListN.{get_or-map}
 use Rattle.std.proofs.lemmas.Bool.{cases_lt, cases_eq}
 use Rattle.std.proofs.lemmas.Bool.Decides.{nat_tests}
@@ -9,7 +9,7 @@ use Rattle.plant_model.specs.declared.limits.TheConstants.{MOST_SECTIONS}
 use Rattle.plant_model.specs.declared.parts.Tie.{Tie}
 use Rattle.plant_model.specs.declared.plant.Parts.{Parts}
 use Rattle.plant_model.specs.declared.status.Standing.{Standing}
-use Rattle.bus_topology.specs.Islands.{IsLive, HasEnds, Joins, AreJoined, AreConnected, IsIsland, IsIslandMap, IsMapSoFar, exchanged}
+use Rattle.bus_topology.specs.Islands.{IsLive, HasEnds, Joins, AreConnected, IsIslandMap, IsMapSoFar, exchanged}
 use Rattle.bus_topology.proofs.Connections.{connected_from_joined, AreConnected-sym, AreConnected-trans, live_from_connected, same_for_connected}
 
 live_cases : (p : Parts) (s : Standing) (n : ℕ) (kept : Option Bool) → slice_get s.live n ≡ kept → (n < length p.sections.items) ⊎ (length p.sections.items ≤ n) → IsLive p s n ⊎ ¬ IsLive p s n

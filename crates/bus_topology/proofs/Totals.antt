@@ -1,5 +1,5 @@
 -- A total over the parts that stand and pass a test, while parts are taken in turn.
-use Rattle.std.proofs.Common.{◌≡◌, ◌∙◌, ℕ, ◌+◌, ◌*◌, ◌<◌, ◌≤◌, ◌⊎◌, min, Bool, true, false, ◌&&◌, List, length, take, get_or, if◌then◌else◌, inl, inr, refl, sym, ap, ap₂, subst, add-zero, arith}
+use Rattle.std.proofs.Common.{◌≡◌, ◌∙◌, ℕ, ◌+◌, ◌*◌, ◌<◌, ◌≤◌, ◌⊎◌, Bool, true, false, List, length, take, get_or, inl, inr, refl, sym, ap, ap₂, add-zero, arith}
 use Rattle.std.specs.List.{zip, sum_by}
 use Rattle.std.proofs.lemmas.List.{take_all}
 use Rattle.std.proofs.lemmas.List.Sums.{sum_by_more}

@@ -32,7 +32,7 @@ pub record IsChain (p : Parts) (s : Standing) (a b : ℕ) (chain : List ℕ) : T
   pub begins : slice_get chain 0 ≡ Some a
   pub ends : slice_get chain (length chain - 1) ≡ Some b
   pub joined : (k : ℕ) → k + 1 < length chain
-    → AreJoined p s (slice_index chain k) (slice_index chain (k + 1))
+      → AreJoined p s (slice_index chain k) (slice_index chain (k + 1))
 
 -- a chain goes from the one section to the other
 abbrev pub AreConnected : Parts → Standing → ℕ → ℕ → Type 0
@@ -48,7 +48,7 @@ pub record IsIslandMap (p : Parts) (s : Standing) (of : List ℕ) : Type 0 where
   pub place : (section : ℕ) → IsLive p s section → section < length of
   pub live : (section : ℕ) → IsLive p s section → IsIsland p s section (slice_index of section)
   pub other : (place : ℕ) → place < MOST_SECTIONS → ¬ IsLive p s place
-    → slice_index of place ≡ MOST_SECTIONS
+      → slice_index of place ≡ MOST_SECTIONS
 
 -- the place has this number in the map
 abbrev pub has_number : List ℕ → ℕ → ℕ → Bool
@@ -63,9 +63,9 @@ exchanged old new n = if n == old then new else n
 pub record IsMapSoFar (p : Parts) (s : Standing) (taken : ℕ) (of : List ℕ) : Type 0 where
   pub place : (section : ℕ) → IsLive p s section → section < length of
   pub connected : (section : ℕ) → IsLive p s section
-    → AreConnected p s section (slice_index of section)
+      → AreConnected p s section (slice_index of section)
   pub low : (section : ℕ) → IsLive p s section → slice_index of section ≤ section
   pub other : (place : ℕ) → place < MOST_SECTIONS → ¬ IsLive p s place
-    → slice_index of place ≡ MOST_SECTIONS
+      → slice_index of place ≡ MOST_SECTIONS
   pub merged : (place a b : ℕ) → place < taken → Joins p s place a b
-    → slice_index of a ≡ slice_index of b
+      → slice_index of a ≡ slice_index of b

@@ -1,6 +1,5 @@
-use Rattle.std.proofs.Common.{◌≡◌, ◌∙◌, ◌==◌, ◌<◌, ◌≤◌, ◌+◌, ℕ, Bool, true, false, length, get_or, slice_index_or, inl, inr, ap, subst, sym, rules, arith}
+use Rattle.std.proofs.Common.{◌≡◌, ◌∙◌, ◌==◌, ◌<◌, ◌+◌, ℕ, Bool, false, length, slice_index_or, inl, inr, ap, subst, sym, rules, arith}
 use Rattle.std.proofs.lemmas.Bool.Decides.{Decides-eqb, nat_tests}
-use Rattle.plant_model.specs.declared.limits.TheConstants.{MOST_POWER}
 use Rattle.plant_model.specs.declared.parts.Generator.{Generator}
 use Rattle.bus_topology.specs.declared.map.TheConstants.{NO_ISLAND}
 use Rattle.bus_topology.specs.Islands.{has_number}

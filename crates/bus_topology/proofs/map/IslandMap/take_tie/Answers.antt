@@ -1,7 +1,7 @@
-use Rattle.std.proofs.Common.{◌≡◌, ◌≢◌, ℕ, ◌+◌, length, slice_get, Some, true, refl, rules, arith, subst, sym}
+use Rattle.std.proofs.Common.{◌≡◌, ◌+◌, length, slice_get, Some, true, refl, rules, arith, subst, sym}
 use Rattle.std.proofs.lemmas.Grind.{common_steps}
 use Rattle.std.proofs.lemmas.Option.{slice_get_read, gets}
-use Rattle.bus_topology.specs.Islands.{IsLive, IsMapSoFar, Joins}
+use Rattle.bus_topology.specs.Islands.{IsLive, IsMapSoFar}
 use Rattle.bus_topology.proofs.Maps.{joins_its_ends, live_ends, map_kept, map_merged, merged_map}
 use Rattle.bus_topology.proofs.map.IslandMap.take_tie.Goals as goal
 use Rattle.bus_topology.proofs.map.IslandMap.take_tie.Goals.{else-standing-place-via-then-standing-place+then-is_live+else-is_live-2, else-standing-place-via-then-standing-place+else-is_live, else-standing-place-via-else-standing-place}
