@@ -1,5 +1,5 @@
 -- Fronts of lists, a caller's entries in them, sums over them and numbers that differ.
-use Rattle.std.proofs.Common.{◌≡◌, ℕ, zero, suc, ◌+◌, ◌<◌, ◌≤◌, ◌≢◌, ◌==◌, ◌⊎◌, Bool, true, false, List, [], ◌∷◌, ◌++◌, length, drop, set, refl, ap, sym, subst, ◌∙◌, arith, append_assoc, length-append, ⊎_elim}
+use Rattle.std.proofs.Common.{◌≡◌, ℕ, zero, suc, ◌+◌, ◌<◌, ◌≤◌, ◌≢◌, ◌==◌, ◌⊎◌, Bool, true, false, List, [], ◌∷◌, ◌++◌, length, set, refl, ap, sym, subst, ◌∙◌, arith, append_assoc, length-append, ⊎_elim, inl, inr}
 use Rattle.std.specs.List.{All, filter}
 use Rattle.std.proofs.lemmas.List.{append-nil}
 use Rattle.std.proofs.lemmas.List.Elements.{filter-append}
@@ -105,14 +105,8 @@ module _ {E : Type 0} (caller_of : E → ℕ) where
   by_one_other : (c : ℕ) (e : E) → caller_of e ≢ c → by c (e ∷ []) ≡ []
   by_one_other c e other = grind (arith, nat_tests)
 
-  by_one_own : (c : ℕ) (e : E) → caller_of e ≡ c → by c (e ∷ []) ≡ e ∷ []
-  by_one_own c e own = grind (arith, nat_tests)
-
   pub by_other : (c : ℕ) (xs : List E) (e : E) → caller_of e ≢ c → by c (xs ++ e ∷ []) ≡ by c xs
   by_other c xs e other = by_append c xs (e ∷ []) ∙ (ap (λ w. by c xs ++ w) (by_one_other c e other) ∙ append-nil (by c xs))
-
-  pub by_own : (c : ℕ) (xs : List E) (e : E) → caller_of e ≡ c → by c (xs ++ e ∷ []) ≡ by c xs ++ e ∷ []
-  by_own c xs e own = by_append c xs (e ∷ []) ∙ ap (λ w. by c xs ++ w) (by_one_own c e own)
 
   -- a number past all that were given made nothing
   pub by_none : (n : ℕ) (xs : List E) → All (λ e. caller_of e < n) xs → by n xs ≡ []
@@ -209,6 +203,26 @@ module _ {A : Type 0} where
   only_view a zero b at = some-injective a b at
   only_view a (suc i) b at = absurd (some-ne-none b (sym at))
 
-  pub drop_front : (xs ys : List A) → drop (length xs) (xs ++ ys) ≡ ys
-  drop_front [] ys = refl
-  drop_front (x ∷ xs) ys = drop_front xs ys
+  -- what stands in a list with one element more
+  pub at_end : (vs : List A) (j : ℕ) (w d : A) → get_elem? (vs ++ w ∷ []) j ≡ some d → (get_elem? vs j ≡ some d) ⊎ ((j ≡ length vs) × (w ≡ d))
+  at_end [] zero w d at = inr (refl, some-injective w d at)
+  at_end [] (suc j) w d at = absurd (some-ne-none d (sym at))
+  at_end (x ∷ xs) zero w d at = inl at
+  at_end (x ∷ xs) (suc j) w d at = ⊎_elim (λ (old : get_elem? xs j ≡ some d). inl old) (λ (t : (j ≡ length xs) × (w ≡ d)). inr (ap suc t.0, t.1)) (at_end xs j w d at)
+
+  pub each_snoc : (F : A → Type 0) (vs : List A) (w : A) → ((j : ℕ) (d : A) → get_elem? vs j ≡ some d → F d) → F w → (j : ℕ) (d : A) → get_elem? (vs ++ w ∷ []) j ≡ some d → F d
+  each_snoc F vs w old new j d at = ⊎_elim (λ (there : get_elem? vs j ≡ some d). old j d there) (λ (t : (j ≡ length vs) × (w ≡ d)). subst F t.1 new) (at_end vs j w d at)
+
+  -- numbers stay apart where an element comes whose number no other has
+  pub apart_snoc : (number : A → Option ℕ) (vs : List A) (w : A) → Apart number vs → ((n : ℕ) → number w ≡ some n → (j : ℕ) (u : A) → get_elem? vs j ≡ some u → number u ≢ some n) → Apart number (vs ++ w ∷ [])
+  apart_snoc number vs w apart fresh i j a b n ia jb an bn =
+      ⊎_elim
+      (λ (s : get_elem? vs i ≡ some a). ⊎_elim
+      (λ (t : get_elem? vs j ≡ some b). apart i j a b n s t an bn)
+      (λ (t : (j ≡ length vs) × (w ≡ b)). absurd (fresh n (ap number t.1 ∙ bn) i a s an))
+      (at_end vs j w b jb))
+      (λ (s : (i ≡ length vs) × (w ≡ a)). ⊎_elim
+      (λ (t : get_elem? vs j ≡ some b). absurd (fresh n (ap number s.1 ∙ an) j b t bn))
+      (λ (t : (j ≡ length vs) × (w ≡ b)). s.0 ∙ sym t.0)
+      (at_end vs j w b jb))
+      (at_end vs i w a ia)

@@ -1,5 +1,5 @@
 -- What the rule says of one seat, and how it goes on as the others step.
-use Rattle.std.proofs.Common.{◌≡◌, ℕ, ◌+◌, ◌-◌, ◌<◌, ◌≤◌, ◌≢◌, true, false, List, [], ◌∷◌, ◌++◌, set, refl, ap, sym, subst, ◌∙◌, arith, Option, None}
+use Rattle.std.proofs.Common.{◌≡◌, ℕ, ◌+◌, ◌-◌, ◌<◌, ◌≤◌, ◌≢◌, true, false, List, length, [], ◌∷◌, ◌++◌, set, refl, ap, sym, subst, ◌∙◌, arith, Option, None}
 use Rattle.std.specs.List.{All}
 use mathlib.Core.Logic.{dite}
 use mathlib.Core.Option.{some, some-injective, some-ne-none}
@@ -112,9 +112,11 @@ module _ {E B : Type 0} (caller_of : E → ℕ) where
     }
 
     -- what a pass shows is sound
-    pub shows_sound : (st : Standing) → All (λ e. caller_of e < now.next) now.log → Knows caller_of now k → KnowsPass caller_of now k → ShowsSound caller_of record { standing = st; known = k }
-    shows_sound st given f p lock = record {
+    pub shows_sound : (st : Standing) → now.away + length now.ended + 1 ≡ now.next → All (λ e. caller_of e < now.next) now.log → Knows caller_of now k → KnowsPass caller_of now k
+        → ShowsSound caller_of record { standing = st; known = k }
+    shows_sound st counted given f p lock = record {
       mine = p.mine;
+      counted = λ root. let away = p.away root in let next = p.next root in let ended = ap length (p.ended root) in omega arith;
       given = λ root. subst (λ (n : ℕ). All (λ e. caller_of e < n) k.seen) (sym (p.next root)) (All-prefix (λ e. caller_of e < now.next) k.seen now.log f.seen given);
       ended = λ root. subst (All (λ f. entries_by caller_of f.caller k.seen ≡ f.mine)) (sym (p.ended root)) (p.kept root);
     }

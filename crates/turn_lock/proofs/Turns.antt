@@ -80,7 +80,7 @@ module _ {K E B : Type 0} (entries : K → List E) (base_of : K → B) (caller_o
           whole = whole_set r.now.log s.views id v w at (λ _. refl) (λ e. e) r.whole;
           passes = omega arith;
           waits = omega arith;
-          few = r.few;
+          counted = r.counted;
           many = r.many;
           given = r.given;
           old = r.old;
@@ -134,7 +134,7 @@ module _ {K E B : Type 0} (entries : K → List E) (base_of : K → B) (caller_o
         whole = whole_here r.now.log s.views id v w at refl all;
         passes = omega arith;
         waits = omega arith;
-        few = r.few;
+        counted = r.counted;
         many = r.many;
         given = r.given;
         old = r.old;
@@ -145,7 +145,7 @@ module _ {K E B : Type 0} (entries : K → List E) (base_of : K → B) (caller_o
   at_turn : (s : St) (r : Rule s) (id : ℕ) (v : V) (t : ℕ) → get_elem? s.views id ≡ some v → v.standing ≡ Waiting t → get_or s.words 1 0 ≡ t % 2 ^ 64 → t ≡ r.served
   at_turn s r id v t at is found =
       let mine = subst (Fits caller_of r.now v.known r.served r.waiting) is (r.each id v at) in
-      let few = waits_few s.views in let passes = r.passes in let waiting = r.waits in let away = r.few in let many = r.many in
+      let few = waits_few s.views in let passes = r.passes in let waiting = r.waits in let away = r.counted in let many = r.many in
       let low = mine.2 in let high = mine.3 in
       let word : get_or s.words 1 0 ≡ r.served % 2 ^ 64 = ap (λ (ws : List ℕ). get_or ws 1 0) r.words in
       sym (one_turn r.served t (2 ^ 64) low (omega arith) (sym word ∙ found))
@@ -169,7 +169,7 @@ module _ {K E B : Type 0} (entries : K → List E) (base_of : K → B) (caller_o
         base = h.base ∙ sym mine.0.base;
         seen = subst (IsPrefix v.known.seen) (sym h.list) mine.0.seen;
         alone = λ root none_away. h.list ∙ sym (alone_whole s r id v at (ap is_pass is) (sym (mine.1.away root) ∙ none_away));
-        sound = shows_sound caller_of r.now (record v.known { seen = entries x }) (Holding t) r.given knows pass;
+        sound = shows_sound caller_of r.now (record v.known { seen = entries x }) (Holding t) r.counted r.given knows pass;
       } in (
         w,
         takes 0 (Some x),
@@ -200,7 +200,7 @@ module _ {K E B : Type 0} (entries : K → List E) (base_of : K → B) (caller_o
           same = refl;
           first = mine.0.first;
           second = mine.0.second;
-          sound = shows_sound caller_of r.now v.known v.standing r.given mine.0 mine.1;
+          sound = shows_sound caller_of r.now v.known v.standing r.counted r.given mine.0 mine.1;
         },
       )
 
@@ -256,7 +256,7 @@ module _ {K E B : Type 0} (entries : K → List E) (base_of : K → B) (caller_o
           whole = whole_set r.now.log s.views id v w at (λ _. refl) (λ e. e) r.whole;
           passes = omega arith;
           waits = omega arith;
-          few = r.few;
+          counted = r.counted;
           many = r.many;
           given = r.given;
           old = r.old;
@@ -319,7 +319,7 @@ module _ {K E B : Type 0} (entries : K → List E) (base_of : K → B) (caller_o
           whole = whole_here log s.views id v w at refl all;
           passes = omega arith;
           waits = omega arith;
-          few = r.few;
+          counted = r.counted;
           many = r.many;
           given = given;
           old = r.old;
@@ -327,7 +327,7 @@ module _ {K E B : Type 0} (entries : K → List E) (base_of : K → B) (caller_o
         },
         record {
           seat = λ y same. let value : x ≡ y = same_held x y ((0, Some x) ∷ []) refl same in let after : M = (w, []) in subst (λ (z : K). after ≡ (served_with caller_of v (entries z), [])) value refl;
-          sound = shows_sound caller_of now w.known Free given knows pass;
+          sound = shows_sound caller_of now w.known Free r.counted given knows pass;
         },
       )
 
@@ -372,7 +372,7 @@ module _ {K E B : Type 0} (entries : K → List E) (base_of : K → B) (caller_o
     whole = record { seat = 0; view = root; there = refl; pass = refl; whole = refl };
     passes = refl;
     waits = refl;
-    few = omega arith;
+    counted = refl;
     many = omega arith;
     given = All-none _;
     old = All-none _;

@@ -1,5 +1,5 @@
 -- The rule of the lock's table: what holds between any two steps. Word 0 counts the tickets that were drawn and word 1 the turns that were served, both modulo 2^64. The one slot has the value but while a pass holds the turn.
-use Rattle.std.specs.Prelude.{◌≡◌, ◌≢◌, ℕ, ◌+◌, ◌^◌, ◌%◌, ◌<◌, ◌≤◌, List, [], ◌∷◌, false, All, Option, Some}
+use Rattle.std.specs.Prelude.{◌≡◌, ◌≢◌, ℕ, ◌+◌, ◌^◌, ◌%◌, ◌<◌, ◌≤◌, List, length, [], ◌∷◌, false, All, Option, Some}
 use mathlib.Core.Option.{none, some}
 use mathlib.Core.Option as maybe
 use mathlib.Core.List.{IsPrefix}
@@ -116,7 +116,7 @@ module _ {K E B : Type 0} (entries : K → List E) (base_of : K → B) (caller_o
     pub whole : HasWhole now.log s.views
     pub passes : total pass_weight s.views ≡ now.away + 1
     pub waits : total wait_weight s.views ≡ waiting
-    pub few : now.away < now.next
+    pub counted : now.away + length now.ended + 1 ≡ now.next
     pub many : now.next ≤ 2 ^ 32
     pub given : All (λ e. caller_of e < now.next) now.log
     pub old : All (λ f. f.caller < now.next) now.ended

@@ -1,4 +1,6 @@
 //! What a caller takes its turns with.
+ghost use Rattle.std.specs.Prelude.{◌≡◌};
+
 use crate::keeps::Keeps;
 use crate::plays::Place;
 use std::marker::Model;
@@ -23,4 +25,13 @@ impl<K: Keeps> Model for Pass<K> {
     ghost view = { λ p. shown p.seat.table_id p.seat.me.0 };
 
     ghost invariant = { λ p. IsAtRest K.caller_of p.caller p.next p.seat.table_id p.seat.me };
+}
+
+impl<K: Keeps> Pass<K> {
+    /// The number of the pass; that of the root is 0.
+    pub fn caller(&self) -> u32
+        ensures { result ≡ self.now.caller }
+    {
+        self.caller
+    }
 }

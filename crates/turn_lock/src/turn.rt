@@ -1,14 +1,17 @@
 //! The lock.
-ghost use Rattle.std.specs.Prelude.{◌≡◌, ◌%◌, ◌^◌, ◌++◌, [], ◌∷◌, length, drop, true, false, IfOk, IfErr, Some, None};
+ghost use Rattle.std.specs.Prelude.{◌≡◌, ◌+◌, ◌-◌, ◌≤◌, IsOk, ◌%◌, ◌^◌, ◌++◌, [], ◌∷◌, length, drop, true, false, IfOk, IfErr, Some, None};
 ghost use mathlib.Core.List.{IsPrefix};
-ghost use Rattle.turn_lock.specs.Passes.{IsSound, AddsOne, root_of};
+ghost use Rattle.turn_lock.specs.Passes.{IsSound, AddsOne, root_of, next_pass, ended_of};
+ghost use Rattle.turn_lock.specs.Lists.{longer};
 ghost use Rattle.turn_lock.specs.Lists.{entries_by};
-ghost use Rattle.turn_lock.specs.Steps.{HasTurn, IsWaiting};
+ghost use Rattle.turn_lock.specs.Steps.{HasTurn, IsWaiting, ShowsSound, joined, met};
 ghost use Rattle.turn_lock.specs.declared.view.Standing.TheVariants.{Free};
 
 use crate::keeps::Keeps;
 use crate::pass::Pass;
-use crate::plays::{Desk, Draw, Look, Place, Serve, ServeEntry};
+use crate::plays::{
+    Compare, Desk, Draw, GiveNumber, Learn, Look, Place, Serve, ServeEntry, TakeBack, Tell,
+};
 use atomic_table::{Refused, Table};
 use dp_io::{Gate, NoMemory, Stage};
 use std::alloc::Global;
@@ -123,6 +126,133 @@ impl<K: Keeps> Turn<K> {
             .shared
             .fetch_add::<Serve>(&mut pass.seat, SERVED, 1);
         self.wake_after(turn);
+    }
+
+    /// A new pass, with the next number, for a caller of its own. It has seen what the root has. It takes
+    /// no memory, so the answer is always Ok.
+    pub fn split(&self, root: &mut Pass<K>) -> Result<Pass<K>, NoMemory>
+        requires lock { root.old.lock ≡ self.now }
+        requires root { root.old.caller ≡ 0 }
+        requires free { root.old.holds ≡ false }
+        requires room { root.old.next ≤ 4294967295 }
+        ensures always { IsOk result }
+        ensures pass { IfOk result (λ pass. pass ≡ next_pass root.old) }
+        ensures root { root.new
+            ≡ record root.old { next = root.old.next + 1; away = root.old.away + 1 } }
+        ensures sound { IsSound K.caller_of root.new }
+        ensures pass_sound { IfOk result (IsSound K.caller_of) }
+    {
+        let caller = root.next as u32;
+        let seat = self.table.shared.split_seat::<GiveNumber>(&mut root.seat);
+        root.next += 1;
+        Ok(Pass {
+            caller,
+            next: 0,
+            seat,
+        })
+    }
+
+    /// The root takes a pass back, and has seen what either has. It keeps the pass's number and the
+    /// entries that were its own.
+    pub fn join(&self, root: &mut Pass<K>, other: Pass<K>)
+        requires lock { root.old.lock ≡ self.now }
+        requires other_lock { other.lock ≡ self.now }
+        requires root { root.old.caller ≡ 0 }
+        requires free { root.old.holds ≡ false }
+        requires other_free { other.holds ≡ false }
+        ensures root { root.new ≡ record root.old {
+          seen = longer root.old.seen other.seen;
+          away = root.old.away - 1;
+          ended = root.old.ended ++ ended_of other ∷ [];
+        } }
+        ensures fewer { root.new.away + 1 ≡ root.old.away }
+        ensures this { IsPrefix root.old.seen root.new.seen }
+        ensures that { IsPrefix other.seen root.new.seen }
+        ensures sound { IsSound K.caller_of root.new }
+    {
+        let Pass {
+            caller: _,
+            next: _,
+            seat,
+        } = other;
+        self.take_back(&mut root.seat, seat);
+    }
+
+    /// A pass learns what another has seen; the other stays as it was. It takes no memory, so the answer
+    /// is always Ok.
+    pub fn meet(&self, pass: &mut Pass<K>, other: &mut Pass<K>) -> Result<(), NoMemory>
+        requires lock { pass.old.lock ≡ self.now }
+        requires other_lock { other.old.lock ≡ self.now }
+        requires free { pass.old.holds ≡ false }
+        requires other_free { other.old.holds ≡ false }
+        ensures always { IsOk result }
+        ensures pass { pass.new ≡ record pass.old { seen = longer pass.old.seen other.old.seen } }
+        ensures this { IsPrefix pass.old.seen pass.new.seen }
+        ensures that { IsPrefix other.old.seen pass.new.seen }
+        ensures other { other.new ≡ other.old }
+        ensures sound { IsSound K.caller_of pass.new }
+    {
+        self.learn(&mut pass.seat, &mut other.seat);
+        Ok(())
+    }
+
+    /// Ends the lock, and gives its value.
+    pub fn close(self, root: Pass<K>) -> K
+        requires lock { root.lock ≡ self }
+        requires root { root.caller ≡ 0 }
+        requires free { root.holds ≡ false }
+        requires alone { root.away ≡ 0 }
+        ensures entries { K.entries result ≡ root.seen }
+        ensures base { K.base_of result ≡ root.base }
+    {
+        let Pass {
+            caller: _,
+            next: _,
+            seat,
+        } = root;
+        let Turn { table } = self;
+        let mut closed = table.close_with(seat);
+        let last = closed.take(VALUE);
+        closed.free();
+        let Some(value) = last else { unreachable!() };
+        value
+    }
+
+    // A seat is joined to the root's, which looks.
+    fn take_back(&self, root: &mut Place<K>, other: Place<K>)
+        requires lock { root.old.table_id ≡ self.now }
+        requires other_lock { other.table_id ≡ self.now }
+        requires root { root.old.me.0.known.caller ≡ 0 }
+        requires free { root.old.me.0.standing ≡ Free }
+        requires other_free { other.me.0.standing ≡ Free }
+        requires other_held { other.me.1 ≡ [] }
+        ensures lock { root.new.table_id ≡ root.old.table_id }
+        ensures root { root.new.me ≡ (joined root.old.me.0 other.me.0, root.old.me.1) }
+        ensures this { IsPrefix root.old.me.0.known.seen root.new.me.0.known.seen }
+        ensures that { IsPrefix other.me.0.known.seen root.new.me.0.known.seen }
+        ensures sound { ShowsSound K.caller_of root.new.me.0 }
+    {
+        self.table.shared.join_seat::<TakeBack<K>>(root, other);
+        self.table.shared.load::<Compare>(root, SERVED);
+    }
+
+    // A copy of one seat is joined to another, which looks.
+    fn learn(&self, seat: &mut Place<K>, other: &mut Place<K>)
+        requires lock { seat.old.table_id ≡ self.now }
+        requires other_lock { other.old.table_id ≡ self.now }
+        requires free { seat.old.me.0.standing ≡ Free }
+        requires other_free { other.old.me.0.standing ≡ Free }
+        ensures lock { seat.new.table_id ≡ seat.old.table_id }
+        ensures other_lock { other.new.table_id ≡ other.old.table_id }
+        ensures seat { seat.new.me ≡ (met seat.old.me.0 other.old.me.0, seat.old.me.1) }
+        ensures other { other.new.me ≡ other.old.me }
+        ensures this { IsPrefix seat.old.me.0.known.seen seat.new.me.0.known.seen }
+        ensures that { IsPrefix other.old.me.0.known.seen seat.new.me.0.known.seen }
+        ensures sound { ShowsSound K.caller_of seat.new.me.0 }
+    {
+        let copy = self.table.shared.split_seat::<Tell>(other);
+        self.table.shared.join_seat::<Learn<K>>(seat, copy);
+        self.table.shared.load::<Compare>(seat, SERVED);
     }
 
     // A ticket for the caller.

@@ -1,6 +1,6 @@
-use Rattle.std.proofs.Common.{rules, ◌++◌, ◌∷◌, [], ap, sym, subst, ◌∙◌}
-use Rattle.turn_lock.specs.Views.{IsAtRest}
-use Rattle.turn_lock.proofs.Resting.{left_with}
+use Rattle.std.proofs.Common.{rules, ◌++◌, ◌∷◌, [], refl, ap, sym, ◌∙◌}
+use Rattle.turn_lock.specs.Steps.{served_with}
+use Rattle.turn_lock.proofs.Resting.{rests}
 use Rattle.turn_lock.proofs.Seats.{at_rest_holding}
 use Rattle.turn_lock.proofs.Turns.{serves_entry_at}
 use Rattle.turn_lock.proofs.turn.Turn.leave_with.Goals as goal
@@ -24,14 +24,14 @@ pub invariant_of-pass : goal.invariant_of-pass
 invariant_of-pass g c =
     let put = c.put.ensures.held in
     let serve = c.fetch_add-turn.ensures.2 in
-    left_with g.K.Keeps.entries g.K.Keeps.base_of g.K.Keeps.caller_of c.pass.inside.caller c.pass.inside.next c.fetch_add-turn.new.seat.table_id c.pass.inside.seat.table_id c.put.new.seat.me c.fetch_add-turn.new.seat.me
-    (g.K.Keeps.entries c.args.value) (serve.seat c.args.value (ap (λ m. m.1) put)) serve.sound c.pass.inside.seat.me.1
-    (subst (λ v. IsAtRest g.K.Keeps.caller_of c.pass.inside.caller c.pass.inside.next c.pass.inside.seat.table_id (v, c.pass.inside.seat.me.1)) (sym (ap (λ m. m.0) put)) c.pass.invariant)
+    rests g.K.Keeps.entries g.K.Keeps.base_of g.K.Keeps.caller_of c.pass.inside.caller c.pass.inside.next c.fetch_add-turn.new.seat.table_id
+    (served_with g.K.Keeps.caller_of c.put.new.seat.me.0 (g.K.Keeps.entries c.args.value), []) c.fetch_add-turn.new.seat.me
+    (serve.seat c.args.value (ap (λ m. m.1) put)) (ap (λ m. m.0.known.caller) put ∙ c.pass.invariant.same_caller) (ap (λ m. m.0.known.next) put ∙ c.pass.invariant.same_next) refl serve.sound
 
 pub returns-clause-sound : goal.returns-clause-sound
 returns-clause-sound g c =
     let put = c.put.ensures.held in
     let serve = c.fetch_add-turn.ensures.2 in
-    (left_with g.K.Keeps.entries g.K.Keeps.base_of g.K.Keeps.caller_of c.pass.inside.caller c.pass.inside.next c.fetch_add-turn.new.seat.table_id c.pass.inside.seat.table_id c.put.new.seat.me c.fetch_add-turn.new.seat.me
-    (g.K.Keeps.entries c.args.value) (serve.seat c.args.value (ap (λ m. m.1) put)) serve.sound c.pass.inside.seat.me.1
-    (subst (λ v. IsAtRest g.K.Keeps.caller_of c.pass.inside.caller c.pass.inside.next c.pass.inside.seat.table_id (v, c.pass.inside.seat.me.1)) (sym (ap (λ m. m.0) put)) c.pass.invariant)).sound
+    (rests g.K.Keeps.entries g.K.Keeps.base_of g.K.Keeps.caller_of c.pass.inside.caller c.pass.inside.next c.fetch_add-turn.new.seat.table_id
+    (served_with g.K.Keeps.caller_of c.put.new.seat.me.0 (g.K.Keeps.entries c.args.value), []) c.fetch_add-turn.new.seat.me
+    (serve.seat c.args.value (ap (λ m. m.1) put)) (ap (λ m. m.0.known.caller) put ∙ c.pass.invariant.same_caller) (ap (λ m. m.0.known.next) put ∙ c.pass.invariant.same_next) refl serve.sound).sound
