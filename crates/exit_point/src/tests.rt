@@ -68,8 +68,8 @@ fn demo() -> Sums {
     sums
 }
 
-/// Three thrusters at each corner of a square: two that turn and a tunnel at its starboard corners, one that turns and two
-/// tunnels at the others.
+/// Three thrusters at each corner of a square: two that turn and a tunnel at its starboard corners,
+/// one that turns and two tunnels at the others.
 fn square() -> Sums {
     let mut sums = Sums::new();
     for ahead in [1_600, -1_600] {

@@ -1,5 +1,6 @@
-//! What the thrusters do to the vessel together: forces with their moments as vectors in space, and how far the sums of
-//! several lists of vectors reach. Nothing here overflows, and nothing takes memory.
+//! What the thrusters do to the vessel together: forces with their moments as vectors in space, and
+//! how far the sums of several lists of vectors reach. Nothing here overflows, and nothing takes
+//! memory.
 #![tactic(auto)]
 
 mod cut;
