@@ -1,0 +1,145 @@
+ghost use Rattle.plant_model.specs.declared.limits.TheConstants.{FARTHEST_LEVER, MOST_THRUST};
+ghost use Rattle.plant_model.specs.declared.limits.TheConstants.{MOST_FORCE, MOST_MOMENT};
+ghost use Rattle.plant_model.specs.Numbers.{IsWithin};
+ghost use Rattle.wrench_geometry.specs.Wrenches.{IsDemandVector, IsPointWithin};
+
+use super::*;
+use plant_model::limits::{FARTHEST_LEVER, MOST_PIECE_POINTS, MOST_THRUST, MOST_THRUSTERS};
+use plant_model::thrust::Point;
+use std::test::Fail;
+use wrench_geometry::{Images, Sums, Vec3, image};
+
+const TUNNEL: [(i32, i32); 2] = [(0, -200), (0, 200)];
+
+const AZIMUTH: [(i32, i32); 3] = [(400, 0), (0, 400), (-400, 0)];
+
+const LONG: [(i32, i32); 2] = [(0, 2_000), (0, -2_000)];
+
+const WIDE: [(i32, i32); 3] = [(2_000, 0), (0, 2_000), (-2_000, 0)];
+
+fn lever_at(place: (i32, i32)) -> Point
+    ensures { IsPointWithin FARTHEST_LEVER result }
+{
+    Point {
+        x: place.0.clamp(-FARTHEST_LEVER, FARTHEST_LEVER),
+        y: place.1.clamp(-FARTHEST_LEVER, FARTHEST_LEVER),
+    }
+}
+
+fn thrust_of(thrust: (i32, i32)) -> Point
+    ensures { IsPointWithin MOST_THRUST result }
+{
+    Point {
+        x: thrust.0.clamp(-MOST_THRUST, MOST_THRUST),
+        y: thrust.1.clamp(-MOST_THRUST, MOST_THRUST),
+    }
+}
+
+/// Adds the list of a thruster's images, of as many as there is room for.
+fn add(sums: &mut Sums, lever: (i32, i32), thrusts: &[(i32, i32)]) {
+    let mut images = Images::new();
+    for thrust in thrusts {
+        if images.as_slice().len() < MOST_PIECE_POINTS {
+            images.push(image(lever_at(lever), thrust_of(*thrust)));
+        }
+    }
+    if sums.lists().len() < MOST_THRUSTERS {
+        sums.push(images);
+    }
+}
+
+/// BOW2 and STBD of the built-in plant, with the points of STBD's first piece.
+fn after_a_loss() -> Sums {
+    let mut sums = Sums::new();
+    add(&mut sums, (400, 0), &[]);
+    add(&mut sums, (360, 0), &TUNNEL);
+    add(&mut sums, (-400, -100), &[]);
+    add(&mut sums, (-400, 100), &AZIMUTH);
+    sums
+}
+
+/// The built-in plant, with the points of PORT's and STBD's first pieces.
+fn demo() -> Sums {
+    let mut sums = Sums::new();
+    add(&mut sums, (400, 0), &TUNNEL);
+    add(&mut sums, (360, 0), &TUNNEL);
+    add(&mut sums, (-400, -100), &AZIMUTH);
+    add(&mut sums, (-400, 100), &AZIMUTH);
+    sums
+}
+
+/// Three thrusters at each corner of a square: two that turn and a tunnel at its starboard corners,
+/// one that turns and two tunnels at the others.
+fn square() -> Sums {
+    let mut sums = Sums::new();
+    for ahead in [1_600, -1_600] {
+        add(&mut sums, (ahead, 1_600), &WIDE);
+        add(&mut sums, (ahead, 1_600), &WIDE);
+        add(&mut sums, (ahead, 1_600), &LONG);
+        add(&mut sums, (ahead, -1_600), &WIDE);
+        add(&mut sums, (ahead, -1_600), &LONG);
+        add(&mut sums, (ahead, -1_600), &LONG);
+    }
+    sums
+}
+
+fn at(x: i64, y: i64, z: i64) -> Vec3
+    requires x { IsWithin MOST_FORCE x }
+    requires y { IsWithin MOST_FORCE y }
+    requires z { IsWithin MOST_MOMENT z }
+    ensures { IsDemandVector result }
+{
+    Vec3 { x, y, z }
+}
+
+#[test]
+fn a_demand_on_the_border(rt: HostRuntime) -> Result<(), Fail> {
+    let exit = portal::exit(&after_a_loss(), at(0, 380, 0)).ok_or("gave up")?;
+    assert_eq!(rt; exit.t, exit.q);
+    assert_eq!(rt; exit.cut.w, at(100, 400, 1));
+    assert_eq!(rt; exit.weights.len(), 4);
+    // the thrusts (0, 200) and (0, 180), as weights of q
+    let tunnel = [0, exit.q, 0];
+    assert_eq!(rt; exit.weights[1].as_slice(), tunnel.as_slice());
+    Ok(())
+}
+
+#[test]
+fn a_demand_that_nothing_meets(rt: HostRuntime) -> Result<(), Fail> {
+    let mut none = Sums::new();
+    add(&mut none, (400, 0), &[]);
+    let exit = portal::exit(&none, at(1, 0, 0)).ok_or("gave up")?;
+    assert_eq!(rt; (exit.cut.w, exit.cut.top, exit.t), (at(1, 0, 0), 0, 0));
+    Ok(())
+}
+
+#[test]
+fn demands_of_a_whole_plant(rt: HostRuntime) -> Result<(), Fail> {
+    let cases = [
+        (at(0, 380, 0), at(0, 500, 1), 216_i128, 95_i128),
+        (at(100, 100, 0), at(900, 400, -1), 28, 5),
+        (at(500, -30, 10_000), at(100, -400, 1), 11, 9),
+        (at(1, 0, 0), at(1, 0, 0), 800, 1),
+        (at(0, -1, 0), at(100, -400, 1), 220, 1),
+    ];
+    for (d, w, top, bottom) in cases {
+        let exit = portal::exit(&demo(), d).ok_or("gave up")?;
+        assert_eq!(rt; exit.cut.w, w);
+        assert_eq!(rt; i128::from(exit.t) * bottom, i128::from(exit.q) * top);
+    }
+    Ok(())
+}
+
+#[test]
+fn the_farthest_demand_on_twelve_thrusters(rt: HostRuntime) -> Result<(), Fail> {
+    let exit = portal::exit(&square(), at(24_000, 24_000, 76_800_000)).ok_or("gave up")?;
+    assert_eq!(rt; exit.cut.w, at(1_600, 1_600, 1));
+    Ok(())
+}
+
+#[test]
+fn gives_up_on_one_tunnel(rt: HostRuntime) {
+    let mut tunnel = Sums::new();
+    add(&mut tunnel, (360, 0), &TUNNEL);
+    assert!(rt; portal::exit(&tunnel, at(0, 380, 0)).is_none());
+}
