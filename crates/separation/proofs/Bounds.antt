@@ -1,27 +1,24 @@
 -- How large the parts of a cut are, and the components of directions and normals.
-use Rattle.std.proofs.Common.{◌≡◌, ℕ, suc, ◌*◌, ◌≤◌, ℤ, pos, neg_ℤ, ◌+ℤ◌, ◌≤ℤ◌, List, [], ◌∷◌, length, inl, inr, ◌∙◌, arith, SFits, to_z, of_z, w64}
-use Rattle.std.specs.Int.{w128}
-use Rattle.std.specs.Prelude.{All}
-use Rattle.std.proofs.lemmas.List.Elements.{All-head, All-tail, All-contains}
-use Rattle.std.proofs.lemmas.Int.{ints}
+use Rattle.std.proofs.Common.{◌≡◌, ℤ, pos, neg_ℤ, ◌≤ℤ◌, List, inl, inr, ◌∙◌, arith}
+use Rattle.std.proofs.lemmas.List.Elements.{All-contains}
 use Rattle.int_ring.proofs.Laws.{linear}
-use Rattle.int_ring.proofs.Machine.{fits, strip, machine}
+use Rattle.int_ring.proofs.Machine.{machine}
 use Rattle.plant_model.specs.Numbers.{IsWithin}
 use Rattle.wrench_geometry.specs.declared.vector.Vec3.{Vec3}
-use Rattle.wrench_geometry.specs.Vectors.{opposite_of, cross_of, difference_of, dot_of, greatest_of, support_of}
+use Rattle.wrench_geometry.specs.Vectors.{opposite_of, cross_of, difference_of, dot_of, greatest_of}
 use Rattle.wrench_geometry.specs.Wrenches.{IsDemandVector, AreImages, IsImage}
 use Rattle.wrench_geometry.proofs.Bounds.{wider, within}
 use Rattle.separation.specs.Candidates.{IsNormal}
 use Rattle.separation.specs.Directions.{IsDirection, IsPoint}
-use Rattle.separation.proofs.Supports.{greatest_reached, point_at_origin, support_cons}
+use Rattle.separation.proofs.Supports.{greatest_reached, point_at_origin}
 
 pub demand_product : (w d : Vec3) → IsNormal w → IsDemandVector d → IsWithin (pos 7372800000000000) (dot_of w d)
 demand_product w d normal demand = within (search machine depth 40) tt
 
-image_product : (w v : Vec3) → IsNormal w → IsImage v → IsWithin (pos 614400000000000) (dot_of w v)
+pub image_product : (w v : Vec3) → IsNormal w → IsImage v → IsWithin (pos 614400000000000) (dot_of w v)
 image_product w v normal image = within (search machine depth 40) tt
 
-greatest_below : (w : Vec3) (list : List Vec3) → IsNormal w → AreImages list → greatest_of w list ≤ℤ pos 614400000000000
+pub greatest_below : (w : Vec3) (list : List Vec3) → IsNormal w → AreImages list → greatest_of w list ≤ℤ pos 614400000000000
 greatest_below w list normal images = below (greatest_reached w list)
   where
     along : {a b : ℤ} → a ≡ b → b ≤ℤ pos 614400000000000 → a ≤ℤ pos 614400000000000
@@ -36,29 +33,6 @@ greatest_below w list normal images = below (greatest_reached w list)
 
     below : (v : Vec3) × IsPoint list v × (greatest_of w list ≡ dot_of w v) → greatest_of w list ≤ℤ pos 614400000000000
     below found = point found.0 found.1 found.2
-
-support_by_count : (w : Vec3) (lists : List (List Vec3)) → IsNormal w → All AreImages lists → support_of lists w ≤ℤ pos (length lists * 614400000000000)
-support_by_count w [] normal images = omega (arith, linear)
-support_by_count w (list ∷ lists) normal images =
-    sum (length lists) (support_cons w list lists)
-    (greatest_below w list normal (All-head AreImages list lists images))
-    (support_by_count w lists normal (All-tail AreImages list lists images))
-  where
-    sum : {a b c : ℤ} (n : ℕ) → a ≡ b +ℤ c → b ≤ℤ pos 614400000000000 → c ≤ℤ pos (n * 614400000000000) → a ≤ℤ pos (suc n * 614400000000000)
-    sum {a} {b} {c} n e g k = omega (arith, ints)
-
-pub support_below : (w : Vec3) (lists : List (List Vec3)) → IsNormal w → All AreImages lists → length lists ≤ 12 → support_of lists w ≤ℤ pos 7372800000000000
-support_below w lists normal images few = most (length lists) (support_by_count w lists normal images) few
-  where
-    most : {a : ℤ} (n : ℕ) → a ≤ℤ pos (n * 614400000000000) → n ≤ 12 → a ≤ℤ pos 7372800000000000
-    most {a} n g k = omega (arith, ints)
-
--- numbers as large as the parts of a cut, cast from 128 bits to 64
-pub short_fits : (z : ℤ) → pos 0 ≤ℤ z → z ≤ℤ pos 7372800000000000 → SFits w64 (to_z w128 (of_z w128 z))
-short_fits z low high = fits (search machine depth 40) tt
-
-pub short_is : (z : ℤ) → pos 0 ≤ℤ z → z ≤ℤ pos 7372800000000000 → to_z w64 (of_z w64 (to_z w128 (of_z w128 z))) ≡ z
-short_is z low high = strip (search machine depth 40) tt
 
 pub opposite_normal : (v : Vec3) → IsNormal v → IsNormal (opposite_of v)
 opposite_normal v normal = record { x = turned normal.x; y = turned normal.y; z = turned normal.z }

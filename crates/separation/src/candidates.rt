@@ -7,7 +7,8 @@ ghost use Rattle.separation.specs.Candidates.{IsAtMost, IsAtMostAlong, IsNormal}
 ghost use Rattle.separation.specs.Directions.{IsDirection};
 
 use crate::directions::directions_of;
-use wrench_geometry::{Cut, Sums, Vec3, cross, opposite, product, support};
+use crate::reach::reach;
+use wrench_geometry::{Cut, Sums, Vec3, cross, opposite, product};
 
 /// The cut with the least `top / bottom` of all whole directions that have a product of at least 1 with `d`. `d` is a
 /// demand within its limits, in kN and kN·dm, and not zero. One of two directions with the same quotient is found.
@@ -117,10 +118,9 @@ fn cut_of(sums: &Sums, d: Vec3, w: Vec3) -> Cut
     ensures direction { result.w ≡ w }
     ensures cut { IsCut sums.now d result }
 {
-    let _lists = sums.lists();
     Cut {
         w,
-        top: support(sums, w) as i64,
+        top: reach(sums, w),
         bottom: product(w, d),
     }
 }
