@@ -1,17 +1,20 @@
 -- Direction lists of the supports of lists: where the signs on the directions are kept, a greatest point stays greatest.
-use Rattle.std.proofs.Common.{◌≡◌, ℕ, ◌+◌, ◌*◌, ◌<◌, ◌≤◌, length, length-append, get_or, subst, ◌⊎◌, inl, inr, ℤ, pos, ◌+ℤ◌, ◌-ℤ◌, neg_ℤ, ◌≤ℤ◌, List, [], ◌∷◌, ◌++◌, map, refl, sym, ap, ap₂, ◌∙◌, arith}
-use Rattle.std.specs.Prelude.{Contains}
-use Rattle.std.proofs.lemmas.List.Elements.{Contains-append_left, Contains-append_right, Contains-get_or, Contains-push, Contains-push_cases}
-use Rattle.std.proofs.lemmas.List.{length-map}
+use Rattle.std.proofs.Common.{◌≡◌, ℕ, ◌+◌, ◌*◌, ◌<◌, ◌≤◌, get_or, subst, ◌⊎◌, inl, inr, ℤ, pos, ◌+ℤ◌, ◌-ℤ◌, ◌*ℤ◌, neg_ℤ, ◌≤ℤ◌, ◌<ℤ◌, List, [], ◌∷◌, ◌++◌, refl, sym, ap, ap₂, ◌∙◌, arith}
+use Rattle.std.specs.Prelude.{All, Contains}
+use Rattle.std.proofs.lemmas.List.Elements.{Contains-append_left, All-contains, Contains-get_or, Contains-push_cases}
+use Rattle.std.proofs.Math.IntN.{*ℤ_comm}
+use Rattle.std.proofs.lemmas.Int.{by_lt_z}
 use Rattle.std.proofs.Math.Nat.{mul-le-mul_left}
 use Rattle.int_ring.proofs.Laws.{linear}
+use Rattle.int_ring.proofs.Order.{cancel}
 use Rattle.int_ring.proofs.Ring.{ring, reads}
 use Rattle.wrench_geometry.specs.declared.vector.Vec3.{Vec3}
 use Rattle.wrench_geometry.specs.Vectors.{opposite_of, dot_of, difference_of, sum_of, zero_vector, greatest_of, support_of}
 use Rattle.wrench_geometry.proofs.Bounds.{same_vector}
-use Rattle.separation.specs.Directions.{IsPoint, Keeps, KeepsSigns, Settles, SettlesDifferences, Spans}
-use Rattle.separation.proofs.Members.{among_head, among_map, among_tail, none_among}
-use Rattle.separation.proofs.Moves.{IsDirectionList, opposite_dot}
+use Rattle.separation.specs.Directions.{IsAlong, IsPoint, Keeps, KeepsSigns, Settles, SettlesDifferences, Spans}
+use Rattle.separation.proofs.Members.{among_head, among_tail, none_among}
+use Rattle.separation.proofs.Moves.{IsDirectionList, commutes, opposite_dot}
+use Rattle.separation.proofs.Normals.{Along, one_line, one_sign}
 use Rattle.separation.proofs.Supports.{greatest_at_least, greatest_reached, greatest_is, support_cons, support_from_0}
 
 -- where the signs on the directions are kept, a point of the list that is greatest stays greatest
@@ -81,6 +84,15 @@ settles_zero directions e is_zero u w signs = record { above = λ g. from (none 
     to : {a : ℤ} → a ≡ pos 0 → a ≤ℤ pos 0
     to {a} e = omega (arith, linear)
 
+keeps_trans : {a b c : ℤ} → Keeps a b → Keeps b c → Keeps a c
+keeps_trans f g = record { above = λ h. g.above (f.above h); below = λ h. g.below (f.below h) }
+
+keeps_turned : {a b : ℤ} → Keeps a b → Keeps (neg_ℤ a) (neg_ℤ b)
+keeps_turned {a} {b} keeps = record {
+  above = λ g. omega (arith, linear, keeps.below (omega (arith, linear)));
+  below = λ g. omega (arith, linear, keeps.above (omega (arith, linear)));
+}
+
 pub settles_opposite : (directions : List Vec3) (e f : Vec3) → f ≡ opposite_of e → Settles directions e → Settles directions f
 settles_opposite directions e f is_opposite settles u w signs = turned (turns u) (turns w) (settles u w signs)
   where
@@ -96,6 +108,44 @@ settles_opposite directions e f is_opposite settles u w signs = turned (turns u)
 -- a longer list settles what its front settles
 pub settles_more : (front back : List Vec3) (e : Vec3) → Settles front e → Settles (front ++ back) e
 settles_more front back e settles u w signs = settles u w (λ f among. signs f (Contains-append_left front back f among))
+
+-- a member settles each vector along it
+pub settles_along : (directions : List Vec3) (c v : Vec3) → Contains directions c → IsAlong c v → Settles directions v
+settles_along directions c v among along u w signs =
+    multiple (dot_of c c) (dot_of c v) (dot_of c u) (dot_of c w) (dot_of v u) (dot_of v w) along.not_zero (times u) (times w) (signs c among)
+  where
+    line : Along c v
+    line = record { x = ap (λ (n : Vec3). n.x) along.normal; y = ap (λ (n : Vec3). n.y) along.normal; z = ap (λ (n : Vec3). n.z) along.normal }
+
+    times : (e : Vec3) → dot_of c c *ℤ dot_of v e ≡ dot_of c v *ℤ dot_of c e
+    times e = ap (λ (z : ℤ). dot_of c c *ℤ z) (commutes v e) ∙ one_line c v line e ∙ ap (λ (z : ℤ). dot_of c v *ℤ z) (commutes e c)
+
+    multiple : (k m cu cw vu vw : ℤ) → pos 0 <ℤ k → k *ℤ vu ≡ m *ℤ cu → k *ℤ vw ≡ m *ℤ cw → Keeps cu cw → Keeps vu vw
+    multiple k m cu cw vu vw k_above e f keeps = by_lt_z (pos 0) m ahead (λ g. by_lt_z m (pos 0) behind (λ h. none (omega (arith, linear))))
+      where
+        ahead : pos 0 <ℤ m → Keeps vu vw
+        ahead g = keeps_trans (one_sign k m vu cu k_above g e) (keeps_trans keeps (one_sign m k cw vw g k_above (sym f)))
+
+        turns : (a b : ℤ) → a ≡ m *ℤ b → a ≡ neg_ℤ m *ℤ neg_ℤ b
+        turns a b g = g ∙ ring (m ∷ b ∷ []) (search reads depth 40) refl
+
+        behind : m <ℤ pos 0 → Keeps vu vw
+        behind g =
+            let n_above : pos 0 <ℤ neg_ℤ m = omega (arith, linear) in
+            keeps_trans (one_sign k (neg_ℤ m) vu (neg_ℤ cu) k_above n_above (turns (k *ℤ vu) cu e))
+            (keeps_trans (keeps_turned keeps) (one_sign (neg_ℤ m) k (neg_ℤ cw) vw n_above k_above (sym (turns (k *ℤ vw) cw f))))
+
+        none : m ≡ pos 0 → Keeps vu vw
+        none g = record { above = λ h. flat.0; below = λ h. flat.1 }
+          where
+            gone : k *ℤ vw ≡ pos 0 *ℤ k
+            gone = f ∙ ap (λ (z : ℤ). z *ℤ cw) g ∙ ring (cw ∷ k ∷ []) (search reads depth 40) refl
+
+            zero : vw ≡ pos 0
+            zero = cancel vw (pos 0) k k_above (*ℤ_comm vw k ∙ gone)
+
+            flat : (pos 0 ≤ℤ vw) × (vw ≤ℤ pos 0)
+            flat = (omega (arith, linear, zero), omega (arith, linear, zero))
 
 -- ---- the axes
 
@@ -143,25 +193,27 @@ settles_within before after within e settles u w signs = settles u w (λ f among
 pub differences_within : (before after : List Vec3) → Within before after → (list : List Vec3) → SettlesDifferences before list → SettlesDifferences after list
 differences_within before after within list settled a b f g = settles_within before after within (difference_of a b) (settled a b f g)
 
--- the new directions are the old ones, a point, and its differences with the points before it
-pub record IsPushed (before after front : List Vec3) (point : Vec3) : Type 0 where
+-- the new directions are the old ones and more, which settle a point and its differences with the points before it
+pub record IsAdded (before after front : List Vec3) (point : Vec3) : Type 0 where
   pub within : Within before after
-  pub itself : Contains after point
-  pub differences : (q : Vec3) → Contains front q → Contains after (difference_of point q)
+  pub itself : Settles after point
+  pub differences : (q : Vec3) → Contains front q → Settles after (difference_of point q)
 
-pub is_pushed : (before middle after front : List Vec3) (point : Vec3) → middle ≡ before ++ point ∷ [] → after ≡ middle ++ map (difference_of point) front → IsPushed before after front point
-is_pushed before middle after front point e f = record {
-  within = λ v among. later v (let P : List Vec3 → Type 0 = λ l. Contains l v in subst P (sym e) (Contains-append_left before (point ∷ []) v among));
-  itself = later point (let P : List Vec3 → Type 0 = λ l. Contains l point in subst P (sym e) (Contains-push before point));
-  differences = λ q among.
-      let P : List Vec3 → Type 0 = λ l. Contains l (difference_of point q) in
-      subst P (sym f) (Contains-append_right middle (map (difference_of point) front) (difference_of point q) (among_map (difference_of point) front q among));
+pub within_all : (before after : List Vec3) → All (Contains after) before → Within before after
+within_all before after kept e among = All-contains (Contains after) before e kept among
+
+pub all_within : (before after : List Vec3) → Within before after → All (Contains after) before
+all_within before after within k d h = within (get_or before k d) (Contains-get_or before k d h)
+
+pub is_added : (before middle after front : List Vec3) (point : Vec3) → Within before middle → Settles middle point → Within middle after → All (λ other. Settles after (difference_of point other)) front →
+    IsAdded before after front point
+is_added before middle after front point first settled second differences = record {
+  within = λ v among. second v (first v among);
+  itself = settles_within middle after second point settled;
+  differences = λ q among. All-contains (λ other. Settles after (difference_of point other)) front q differences among;
 }
-  where
-    later : Within middle after
-    later v among = let P : List Vec3 → Type 0 = λ l. Contains l v in subst P (sym f) (Contains-append_left middle (map (difference_of point) front) v among)
 
-module _ (before after front : List Vec3) (point : Vec3) (pushed : IsPushed before after front point) where
+module _ (before after front : List Vec3) (point : Vec3) (added : IsAdded before after front point) where
   with_itself : Settles after (difference_of point point)
   with_itself = settles_zero after (difference_of point point) (same_vector (none point.x) (none point.y) (none point.z))
     where
@@ -171,11 +223,11 @@ module _ (before after front : List Vec3) (point : Vec3) (pushed : IsPushed befo
   with_point : (q : Vec3) → IsPoint front q → Settles after (difference_of point q)
   with_point q (inl origin) =
       let P : Vec3 → Type 0 = Settles after in
-      subst P (same_vector (less point.x) (less point.y) (less point.z) ∙ ap (difference_of point) (sym origin)) (settles_member after point pushed.itself)
+      subst P (same_vector (less point.x) (less point.y) (less point.z) ∙ ap (difference_of point) (sym origin)) added.itself
     where
       less : (a : ℤ) → a ≡ a -ℤ pos 0
       less a = omega (arith, linear)
-  with_point q (inr among) = settles_member after (difference_of point q) (pushed.differences q among)
+  with_point q (inr among) = added.differences q among
 
   to_point : (q : Vec3) → IsPoint front q → Settles after (difference_of q point)
   to_point q f = settles_opposite after (difference_of point q) (difference_of q point) (same_vector (turns q.x point.x) (turns q.y point.y) (turns q.z point.z)) (with_point q f)
@@ -192,7 +244,7 @@ module _ (before after front : List Vec3) (point : Vec3) (pushed : IsPushed befo
   differences_more settled a b f g = both (front_or_point a f) (front_or_point b g)
     where
       both : IsPoint front a ⊎ (point ≡ a) → IsPoint front b ⊎ (point ≡ b) → Settles after (difference_of a b)
-      both (inl f) (inl g) = settles_within before after pushed.within (difference_of a b) (settled a b f g)
+      both (inl f) (inl g) = settles_within before after added.within (difference_of a b) (settled a b f g)
       both (inl f) (inr e) = let P : Vec3 → Type 0 = λ b. Settles after (difference_of a b) in subst P e (to_point a f)
       both (inr e) (inl g) = let P : Vec3 → Type 0 = λ a. Settles after (difference_of a b) in subst P e (with_point b g)
       both (inr e) (inr k) =
@@ -213,13 +265,13 @@ differences_none directions a b f g = settles_zero directions (difference_of a b
 
 -- ---- how many there are: after p points of a list p·(p + 1)/2 more
 
-pub room_for_point : (start now pushed p : ℕ) → start + 36 ≤ 435 → 2 * now ≤ 2 * start + p * (p + 1) → pushed ≡ now + 1 → p < 8 → pushed + p ≤ 435
+pub room_for_point : (start now pushed p : ℕ) → start + 36 ≤ 435 → 2 * now ≤ 2 * start + p * (p + 1) → pushed ≤ now + 1 → p < 8 → pushed + p ≤ 435
 room_for_point start now pushed p room few e h = omega (arith, mul-le-mul_left p (eight h))
   where
     eight : p < 8 → p + 1 ≤ 8
     eight h = omega arith
 
-pub few_more : (start now pushed after p : ℕ) → 2 * now ≤ 2 * start + p * (p + 1) → pushed ≡ now + 1 → after ≡ pushed + p → 2 * after ≤ 2 * start + (p + 1) * (p + 1 + 1)
+pub few_more : (start now pushed after p : ℕ) → 2 * now ≤ 2 * start + p * (p + 1) → pushed ≤ now + 1 → after ≤ pushed + p → 2 * after ≤ 2 * start + (p + 1) * (p + 1 + 1)
 few_more start now pushed after p few e f = omega arith
 
 pub few_at_end : (start now p : ℕ) → 2 * now ≤ 2 * start + p * (p + 1) → p ≤ 8 → now ≤ start + 36
@@ -227,9 +279,3 @@ few_at_end start now p few h = omega (arith, mul-le-mul_left p (nine h))
   where
     nine : p ≤ 8 → p + 1 ≤ 9
     nine h = omega arith
-
-pub one_longer : (before after : List Vec3) (v : Vec3) → after ≡ before ++ v ∷ [] → length after ≡ length before + 1
-one_longer before after v e = ap length e ∙ length-append before (v ∷ [])
-
-pub lengthened : (before after front : List Vec3) (point : Vec3) (p : ℕ) → after ≡ before ++ map (difference_of point) front → length front ≡ p → length after ≡ length before + p
-lengthened before after front point p e f = ap length e ∙ length-append before (map (difference_of point) front) ∙ ap (λ n. length before + n) (length-map front (difference_of point) ∙ f)

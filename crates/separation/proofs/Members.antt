@@ -1,5 +1,5 @@
 -- Members of a list that pass a test, and the member with the least quotient.
-use Rattle.std.proofs.Common.{◌≡◌, ◌⊎◌, inl, inr, ℤ, pos, ◌*ℤ◌, ◌≤ℤ◌, ◌<ℤ◌, List, [], ◌∷◌, map, Bool, true, false, refl, subst, arith}
+use Rattle.std.proofs.Common.{◌≡◌, ◌⊎◌, inl, inr, ℤ, pos, ◌*ℤ◌, ◌≤ℤ◌, ◌<ℤ◌, List, [], ◌∷◌, Bool, true, false, refl, subst, arith}
 use Rattle.std.proofs.lemmas.Int.{by_lt_z}
 use Rattle.std.proofs.lemmas.List.Elements.{Contains-append_right, Contains-append_cases, Contains-push_cases}
 use Rattle.std.specs.Prelude.{Contains}
@@ -78,8 +78,3 @@ least_quotient {X} p r (x ∷ xs) = by_lt_z (pos 0) (r x) (λ g. above g (least_
           },
         ))
         (λ more. inl (x, first g (λ y c h. fraction_le_trans (p x) (r x) (p found.0) (r found.0) (p y) (r y) g found.1.above h more (found.1.least y c h))))
-
-pub among_map : {X Y : Type 0} (f : X → Y) (xs : List X) (x : X) → Contains xs x → Contains (map f xs) (f x)
-among_map f [] x c = none_among x c
-among_map f (y ∷ ys) x c =
-    each_among (λ z. Contains (f y ∷ map f ys) (f z)) y ys (among_head (f y) (map f ys)) (λ z among. among_tail (f y) (map f ys) (f z) (among_map f ys z among)) x c

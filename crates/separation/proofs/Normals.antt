@@ -110,17 +110,17 @@ pub record Candidate (h : Vec3 → ℤ) (directions : List Vec3) (d u : Vec3) : 
   pub quotient : (h normal *ℤ dot_of u d) ≤ℤ (h u *ℤ dot_of normal d)
 
 -- c and u are on one line
-record Along (c u : Vec3) : Type 0 where
-  x : c.y *ℤ u.z -ℤ c.z *ℤ u.y ≡ pos 0
-  y : c.z *ℤ u.x -ℤ c.x *ℤ u.z ≡ pos 0
-  z : c.x *ℤ u.y -ℤ c.y *ℤ u.x ≡ pos 0
+pub record Along (c u : Vec3) : Type 0 where
+  pub x : c.y *ℤ u.z -ℤ c.z *ℤ u.y ≡ pos 0
+  pub y : c.z *ℤ u.x -ℤ c.x *ℤ u.z ≡ pos 0
+  pub z : c.x *ℤ u.y -ℤ c.y *ℤ u.x ≡ pos 0
 
 -- Lagrange's identity
 lagrange : (c u e : Vec3) → dot_of c c *ℤ dot_of e u -ℤ dot_of c u *ℤ dot_of e c ≡ dot_of (cross_of c e) (cross_of c u)
 lagrange c u e = ring (c.x ∷ c.y ∷ c.z ∷ u.x ∷ u.y ∷ u.z ∷ e.x ∷ e.y ∷ e.z ∷ []) (search reads depth 40) refl
 
 -- with every vector, the products of two vectors on one line have one quotient
-one_line : (c u : Vec3) → Along c u → (e : Vec3) → dot_of c c *ℤ dot_of e u ≡ dot_of c u *ℤ dot_of e c
+pub one_line : (c u : Vec3) → Along c u → (e : Vec3) → dot_of c c *ℤ dot_of e u ≡ dot_of c u *ℤ dot_of e c
 one_line c u along e =
     let n = cross_of c e in
     let gone : (k a : ℤ) → a ≡ pos 0 → k *ℤ a ≡ pos 0 = λ (k : ℤ) (a : ℤ) (g : a ≡ pos 0). ap (λ (z : ℤ). k *ℤ z) g ∙ mul_zero k in
@@ -155,7 +155,7 @@ long c d ahead =
     (omega (arith, linear, square_nonneg n.x, square_nonneg n.y, square_nonneg n.z))
 
 -- numbers whose positive multiples are equal have one sign
-one_sign : (k m a b : ℤ) → pos 0 <ℤ k → pos 0 <ℤ m → k *ℤ a ≡ m *ℤ b → Keeps a b
+pub one_sign : (k m a b : ℤ) → pos 0 <ℤ k → pos 0 <ℤ m → k *ℤ a ≡ m *ℤ b → Keeps a b
 one_sign k m a b k_above m_above e = record {
   above = λ g. nonneg_of_mul_nonneg m b m_above (omega (arith, linear, mul_nonneg k a (omega (arith, linear)) g));
   below = λ g. below (nonneg_of_mul_nonneg m (neg_ℤ b) m_above (minus (mul_nonneg k (neg_ℤ a) (omega (arith, linear)) (omega (arith, linear)))));

@@ -1,7 +1,7 @@
 -- What lists of directions say of how far sums reach.
-use Rattle.std.specs.Prelude.{◌≡◌, ℤ, pos, ◌≤ℤ◌, ◌⊎◌, List, Contains}
+use Rattle.std.specs.Prelude.{◌≡◌, ℤ, pos, ◌≤ℤ◌, ◌<ℤ◌, ◌⊎◌, List, Contains}
 use Rattle.wrench_geometry.specs.declared.vector.Vec3.{Vec3}
-use Rattle.wrench_geometry.specs.Vectors.{IsVectorWithin, difference_of, dot_of, zero_vector}
+use Rattle.wrench_geometry.specs.Vectors.{IsVectorWithin, cross_of, difference_of, dot_of, zero_vector}
 use Rattle.separation.specs.declared.directions.TheConstants.{DIRECTION_FORCE, DIRECTION_MOMENT}
 
 -- the vector is within the bounds of a difference of two images
@@ -32,3 +32,8 @@ SettlesDifferences directions list = (a b : Vec3) → IsPoint list a → IsPoint
 -- only the zero vector is perpendicular to all directions
 abbrev pub Spans : List Vec3 → Type 0
 Spans directions = (x : Vec3) → ((e : Vec3) → Contains directions e → dot_of e x ≡ pos 0) → (y : Vec3) → dot_of x y ≡ pos 0
+
+-- v is a multiple, by a fraction, of the direction, which is not zero
+pub record IsAlong (direction v : Vec3) : Type 0 where
+  pub normal : cross_of direction v ≡ zero_vector
+  pub not_zero : pos 0 <ℤ dot_of direction direction

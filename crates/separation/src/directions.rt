@@ -1,13 +1,13 @@
 //! The directions of which each two have a candidate for a least cut as their normal.
-ghost use Rattle.std.specs.Prelude.{◌≡◌, ◌+◌, ◌*◌, ◌<◌, ◌≤◌, ◌∷◌, [], ◌++◌, All, Contains, length, map};
+ghost use Rattle.std.specs.Prelude.{◌≡◌, ◌+◌, ◌*◌, ◌<◌, ◌≤◌, ◌∷◌, [], ◌++◌, All, ◌↔◌, Contains, IsTrue, length};
 ghost use Rattle.wrench_geometry.specs.Vectors.{difference_of};
 ghost use Rattle.wrench_geometry.specs.Wrenches.{AreImages, IsImage};
-ghost use Rattle.separation.specs.Directions.{IsDirection, SettlesDifferences, Spans};
+ghost use Rattle.separation.specs.Directions.{IsAlong, IsDirection, Settles, SettlesDifferences, Spans};
 
 use arrayvec::ArrayVec;
 use plant_model::limits::{MOST_PIECE_POINTS, MOST_THRUST, MOST_THRUSTERS};
 use std::marker::Model;
-use wrench_geometry::{MOST_TURN, Sums, Vec3, difference};
+use wrench_geometry::{MOST_TURN, Sums, Vec3, cross, difference, product};
 
 /// How far from 0 the forces of a difference of two images may be.
 pub const DIRECTION_FORCE: i64 = 2 * MOST_THRUST as i64;
@@ -67,9 +67,24 @@ impl Directions {
         self.members.push(direction);
     }
 
+    /// Adds a direction, unless one that is there lies along it: the signs on that one settle its signs too. There is
+    /// room for it.
+    fn add(&mut self, direction: Vec3)
+        requires room { length self.old < MOST_DIRECTIONS }
+        requires direction { IsDirection direction }
+        ensures kept { All (Contains self.new) self.old }
+        ensures settled { Settles self.new direction }
+        ensures few { length self.new ≤ length self.old + 1 }
+    {
+        if is_along_any(self.as_slice(), direction) {
+            return;
+        }
+        self.push(direction);
+    }
+
     /// Adds the points of a list, which are their differences with the origin, and the differences of each two of them.
     /// There is room for `MOST_DIFFERENCES`.
-    fn push_differences(&mut self, points: &[Vec3])
+    fn add_differences(&mut self, points: &[Vec3])
         requires room { length self.old + MOST_DIFFERENCES ≤ MOST_DIRECTIONS }
         requires points { AreImages points.now }
         requires fits { length points.now ≤ MOST_PIECE_POINTS }
@@ -78,20 +93,22 @@ impl Directions {
         ensures few { length self.new ≤ length self.old + MOST_DIFFERENCES }
     {
         for (place, point) in points.iter().enumerate() {
-            self.push(*point);
-            self.push_differences_with(*point, &points[..place]);
+            self.add(*point);
+            self.add_differences_with(*point, &points[..place]);
         }
     }
 
     /// Adds the differences of a point and each of some others. There is room for as many.
-    fn push_differences_with(&mut self, point: Vec3, others: &[Vec3])
+    fn add_differences_with(&mut self, point: Vec3, others: &[Vec3])
         requires room { length self.old + length others.now ≤ MOST_DIRECTIONS }
         requires point { IsImage point }
         requires others { AreImages others.now }
-        ensures added { self.new ≡ self.old ++ map (difference_of point) others.now }
+        ensures kept { All (Contains self.new) self.old }
+        ensures settled { All (λ other. Settles self.new (difference_of point other)) others.now }
+        ensures few { length self.new ≤ length self.old + length others.now }
     {
         for other in others {
-            self.push(difference(point, *other));
+            self.add(difference(point, *other));
         }
     }
 
@@ -112,7 +129,31 @@ pub fn directions_of(sums: &Sums) -> Directions
 {
     let mut directions = Directions::axes();
     for images in sums.lists() {
-        directions.push_differences(images.as_slice());
+        directions.add_differences(images.as_slice());
     }
     directions
+}
+
+/// Whether a direction lies along one of some others, as the zero vector does along any.
+fn is_along_any(directions: &[Vec3], direction: Vec3) -> bool
+    requires directions { All IsDirection directions.now }
+    requires direction { IsDirection direction }
+    ensures { IsTrue result → Settles directions.now direction }
+{
+    for member in directions {
+        if is_along(*member, direction) {
+            return true;
+        }
+    }
+    false
+}
+
+/// Whether a vector is a multiple, by a fraction, of another that is not zero.
+fn is_along(direction: Vec3, vector: Vec3) -> bool
+    requires direction { IsDirection direction }
+    requires vector { IsDirection vector }
+    ensures { IsTrue result ↔ IsAlong direction vector }
+{
+    let normal = cross(direction, vector);
+    normal.x == 0 && normal.y == 0 && normal.z == 0 && product(direction, direction) > 0
 }

@@ -12,8 +12,8 @@ loop-images-preserved c =
     let i = c.loop-images.images-index in
     let lists = c.lists-images-items.result.now in
     let before = c.loop-images.directions in
-    let after = c.push_differences.new.self in
-    let within : Within before after = λ e among. All-contains (Contains after) before e c.push_differences.ensures.kept among in
+    let after = c.add_differences.new.self in
+    let within : Within before after = λ e among. All-contains (Contains after) before e c.add_differences.ensures.kept among in
     let P : List Vec3 → Type 0 = SettlesDifferences after in
     let Q : List Vec3 → Type 0 = SettlesDifferences before in
     record {
@@ -21,8 +21,8 @@ loop-images-preserved c =
       settled =
           All-more P lists i _ (omega arith)
           (All-weaker Q P (differences_within before after within) (take i lists) c.loop-images.invariant.settled)
-          (subst P (c.as_slice.ensures.value ∙ c.images-item.is) c.push_differences.ensures.settled);
-      few = omega (arith, c.push_differences.ensures.few, c.loop-images.invariant.few);
+          (subst P (c.as_slice.ensures.value ∙ c.images-item.is) c.add_differences.ensures.settled);
+      few = omega (arith, c.add_differences.ensures.few, c.loop-images.invariant.few);
     }
 
 pub returns-clause-settled : goal.returns-clause-settled

@@ -1,7 +1,7 @@
 use Rattle.std.proofs.Common.{◌+◌, ◌*◌, ◌≤◌, length, take}
 use Rattle.separation.specs.Directions.{SettlesDifferences}
 use Rattle.separation.proofs.DirectionLists.{Within}
-use Rattle.separation.proofs.directions.Directions.push_differences.Given as goal
+use Rattle.separation.proofs.directions.Directions.add_differences.Given as goal
 
 abbrev pub invariant-loop-place : goal.invariant-loop-place
 invariant-loop-place l = record {
