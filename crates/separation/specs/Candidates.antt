@@ -13,7 +13,9 @@ IsNormal v = IsVectorWithin NORMAL_FORCE NORMAL_MOMENT v
 abbrev pub IsAtMost : Cut → Cut → Type 0
 IsAtMost a b = (a.top *ℤ b.bottom) ≤ℤ (b.top *ℤ a.bottom)
 
--- the cut's quotient is at most that of the normal or of its opposite, whichever is ahead of the demand
+-- the cut's quotient is at most that of the normal or of its opposite, whichever is ahead of the
+-- demand
 abbrev pub IsAtMostAlong : List (List Vec3) → Vec3 → Cut → Vec3 → Type 0
 IsAtMostAlong lists d cut normal =
-    (w : Vec3) → (w ≡ normal) ⊎ (w ≡ opposite_of normal) → pos 1 ≤ℤ dot_of w d → (cut.top *ℤ dot_of w d) ≤ℤ (support_of lists w *ℤ cut.bottom)
+    (w : Vec3) → (w ≡ normal) ⊎ (w ≡ opposite_of normal) → pos 1 ≤ℤ dot_of w d →
+    (cut.top *ℤ dot_of w d) ≤ℤ (support_of lists w *ℤ cut.bottom)

@@ -27,11 +27,13 @@ IsPoint list v = (v ≡ zero_vector) ⊎ Contains list v
 
 -- the directions settle the difference of any two points of the list, the origin among its points
 abbrev pub SettlesDifferences : List Vec3 → List Vec3 → Type 0
-SettlesDifferences directions list = (a b : Vec3) → IsPoint list a → IsPoint list b → Settles directions (difference_of a b)
+SettlesDifferences directions list =
+    (a b : Vec3) → IsPoint list a → IsPoint list b → Settles directions (difference_of a b)
 
 -- only the zero vector is perpendicular to all directions
 abbrev pub Spans : List Vec3 → Type 0
-Spans directions = (x : Vec3) → ((e : Vec3) → Contains directions e → dot_of e x ≡ pos 0) → (y : Vec3) → dot_of x y ≡ pos 0
+Spans directions = (x : Vec3) → ((e : Vec3) → Contains directions e → dot_of e x ≡ pos 0) →
+    (y : Vec3) → dot_of x y ≡ pos 0
 
 -- v is a multiple, by a fraction, of the direction, which is not zero
 pub record IsAlong (direction v : Vec3) : Type 0 where

@@ -15,9 +15,11 @@ stays_below {z} {s} e g = omega (arith, ints)
 
 pub returns-clause-cut : goal.returns-clause-cut
 returns-clause-cut c =
-    let whole : to_z w64 (of_z w64 c.reach.result) ≡ c.reach.result = to_z-of_z w64 _ (search rules) in
+    let whole : to_z w64 (of_z w64 c.reach.result) ≡ c.reach.result =
+    to_z-of_z w64 _ (search rules) in
     let product = demand_product c.args.w c.args.d c.requires.normal c.requires.demand in
-    let bottom : to_z w64 (of_z w64 c.product.result) ≡ dot_of c.args.w c.args.d = to_z-of_z w64 _ (search rules) ∙ c.product.ensures in
+    let bottom : to_z w64 (of_z w64 c.product.result) ≡ dot_of c.args.w c.args.d =
+    to_z-of_z w64 _ (search rules) ∙ c.product.ensures in
     record {
       bottom = bottom;
       top = whole ∙ c.reach.ensures.value;

@@ -10,5 +10,7 @@ abbrev pub invariant-loop-other : goal.invariant-loop-other
 invariant-loop-other l = record {
   parts : IsCut l.sums l.d l.least;
   at_most : IsAtMost l.least l.fn.cut;
-  at_most_others : All (λ (other : Vec3). IsAtMostAlong l.sums l.d l.least (cross_of l.direction other)) (take l.other-index l.others);
+  at_most_others : All
+      (λ (other : Vec3). IsAtMostAlong l.sums l.d l.least (cross_of l.direction other))
+      (take l.other-index l.others);
 }

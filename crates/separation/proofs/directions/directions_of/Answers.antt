@@ -13,19 +13,24 @@ loop-images-preserved c =
     let lists = c.lists-images-items.result.now in
     let before = c.loop-images.directions in
     let after = c.add_differences.new.self in
-    let within : Within before after = λ e among. All-contains (Contains after) before e c.add_differences.ensures.kept among in
+    let within : Within before after =
+    λ e among. All-contains (Contains after) before e c.add_differences.ensures.kept among in
     let P : List Vec3 → Type 0 = SettlesDifferences after in
     let Q : List Vec3 → Type 0 = SettlesDifferences before in
     record {
       span = spans_within before after within c.loop-images.invariant.span;
       settled =
           All-more P lists i _ (omega arith)
-          (All-weaker Q P (differences_within before after within) (take i lists) c.loop-images.invariant.settled)
+          (All-weaker Q P (differences_within before after within)
+          (take i lists) c.loop-images.invariant.settled)
           (subst P (c.as_slice.ensures.value ∙ c.images-item.is) c.add_differences.ensures.settled);
       few = omega (arith, c.add_differences.ensures.few, c.loop-images.invariant.few);
     }
 
 pub returns-clause-settled : goal.returns-clause-settled
 returns-clause-settled c =
-    let P : List (List Vec3) → Type 0 = λ lists. All (SettlesDifferences c.loop-images.directions) lists in
-    subst P (take_all c.loop-images.images-index c.lists-images-items.result.now c.loop-images-test.false ∙ c.lists-images-items.ensures.value) c.loop-images.invariant.settled
+    let P : List (List Vec3) → Type 0 =
+    λ lists. All (SettlesDifferences c.loop-images.directions) lists in
+    subst P (take_all c.loop-images.images-index c.lists-images-items.result.now
+    c.loop-images-test.false ∙ c.lists-images-items.ensures.value)
+    c.loop-images.invariant.settled

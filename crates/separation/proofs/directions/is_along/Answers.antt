@@ -13,9 +13,12 @@ test {z} {p} e g = grind (arith, ints)
 
 pub returns-then-normal-eq0-3 : goal.returns-then-normal-eq0-3
 returns-then-normal-eq0-3 c =
-    let square : to_z w64 (of_z w64 c.product.result) ≡ dot_of c.args.direction c.args.direction = to_z-of_z w64 _ (search rules) ∙ c.product.ensures in (
+    let square : to_z w64 (of_z w64 c.product.result) ≡ dot_of c.args.direction c.args.direction =
+    to_z-of_z w64 _ (search rules) ∙ c.product.ensures in (
       λ t. record {
-        normal = sym c.cross-normal.ensures ∙ same_vector {b = zero_vector} (omega (arith, ints)) (omega (arith, ints)) (omega (arith, ints));
+        normal = sym c.cross-normal.ensures
+            ∙ same_vector {b = zero_vector} (omega (arith, ints)) (omega (arith, ints))
+            (omega (arith, ints));
         not_zero = above square t;
       },
       λ along. test square along.not_zero,

@@ -12,9 +12,13 @@ returns-then-is_along_any-clause-kept c = All-contains_itself c.args.self.now
 pub returns-clause-kept : goal.returns-clause-kept
 returns-clause-kept c =
     let P : List Vec3 → Type 0 = λ after. All (Contains after) c.args.self.now in
-    subst P (sym c.push.ensures) (all_within c.args.self.now (c.args.self.now ++ c.args.direction ∷ []) (λ e. Contains-append_left c.args.self.now (c.args.direction ∷ []) e))
+    subst P (sym c.push.ensures)
+    (all_within c.args.self.now (c.args.self.now ++ c.args.direction ∷ [])
+    (λ e. Contains-append_left c.args.self.now (c.args.direction ∷ []) e))
 
 pub returns-clause-settled : goal.returns-clause-settled
 returns-clause-settled c =
     let P : List Vec3 → Type 0 = λ after. Settles after c.args.direction in
-    subst P (sym c.push.ensures) (settles_member (c.args.self.now ++ c.args.direction ∷ []) c.args.direction (Contains-push c.args.self.now c.args.direction))
+    subst P (sym c.push.ensures)
+    (settles_member (c.args.self.now ++ c.args.direction ∷ []) c.args.direction
+    (Contains-push c.args.self.now c.args.direction))

@@ -16,7 +16,9 @@ loop-other-init c =
 
 pub add-requires-clause-direction : goal.add-requires-clause-direction
 add-requires-clause-direction c =
-    subst IsDirection (sym c.difference.ensures) (difference_direction _ _ c.requires.point (c.requires.others c.loop-other.other-index _ (omega arith)))
+    subst IsDirection (sym c.difference.ensures)
+    (difference_direction _ _ c.requires.point
+    (c.requires.others c.loop-other.other-index _ (omega arith)))
 
 pub loop-other-preserved : goal.loop-other-preserved
 loop-other-preserved c =
@@ -32,7 +34,9 @@ loop-other-preserved c =
       within = λ e among. within e (c.loop-other.invariant.within e among);
       settled =
           All-more Q others i _ (omega arith)
-          (All-weaker P Q (λ other. settles_within before after within (difference_of c.args.point other)) (take i others) c.loop-other.invariant.settled)
+          (All-weaker P Q
+          (λ other. settles_within before after within (difference_of c.args.point other))
+          (take i others) c.loop-other.invariant.settled)
           (subst R c.difference.ensures c.add.ensures.settled);
       few = omega (arith, c.add.ensures.few, c.loop-other.invariant.few);
     }
@@ -42,5 +46,7 @@ returns-clause-kept c = all_within c.args.self.now c.loop-other.self c.loop-othe
 
 pub returns-clause-settled : goal.returns-clause-settled
 returns-clause-settled c =
-    let P : List Vec3 → Type 0 = λ others. All (λ (other : Vec3). Settles c.loop-other.self (difference_of c.args.point other)) others in
-    subst P (take_all c.loop-other.other-index c.args.others.now c.loop-other-test.false) c.loop-other.invariant.settled
+    let P : List Vec3 → Type 0 = λ others. All
+    (λ (other : Vec3). Settles c.loop-other.self (difference_of c.args.point other)) others in
+    subst P (take_all c.loop-other.other-index c.args.others.now c.loop-other-test.false)
+    c.loop-other.invariant.settled

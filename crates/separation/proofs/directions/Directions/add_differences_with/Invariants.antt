@@ -9,6 +9,7 @@ use Rattle.separation.proofs.directions.Directions.add_differences_with.Given as
 abbrev pub invariant-loop-other : goal.invariant-loop-other
 invariant-loop-other l = record {
   within : Within l.initial.self l.self;
-  settled : All (λ (other : Vec3). Settles l.self (difference_of l.point other)) (take l.other-index l.others);
+  settled : All (λ (other : Vec3). Settles l.self (difference_of l.point other))
+      (take l.other-index l.others);
   few : length l.self ≤ length l.initial.self + l.other-index;
 }
