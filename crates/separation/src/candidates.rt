@@ -1,0 +1,145 @@
+//! The search for a least cut among the normals of each two directions.
+ghost use Rattle.std.specs.Prelude.{◌≡◌, ◌≢◌, pos, ◌*ℤ◌, ◌≤ℤ◌, ◌⊎◌, All, IfNone, IfSome};
+ghost use Rattle.wrench_geometry.specs.Cuts.{IsCut, IsLeastCut};
+ghost use Rattle.wrench_geometry.specs.Vectors.{cross_of, dot_of, opposite_of, zero_vector};
+ghost use Rattle.wrench_geometry.specs.Wrenches.{IsDemandVector};
+ghost use Rattle.separation.specs.Candidates.{IsAtMost, IsAtMostAlong, IsNormal};
+ghost use Rattle.separation.specs.Directions.{IsDirection};
+
+use crate::directions::directions_of;
+use crate::reach::reach;
+use wrench_geometry::{Cut, Sums, Vec3, cross, opposite, product};
+
+/// The cut with the least `top / bottom` of all whole directions that have a product of at least 1 with `d`. `d` is a
+/// demand within its limits, in kN and kN·dm, and not zero. One of two directions with the same quotient is found.
+///
+/// It is found among the normals, both ways, of each two directions of the sums: any whole vector turns into one of
+/// these, past no direction's wall, without that its quotient grows.
+pub fn least_cut(sums: &Sums, d: Vec3) -> Cut
+    requires demand { IsDemandVector d }
+    requires not_zero { d ≢ zero_vector }
+    ensures least { IsLeastCut sums.now d result }
+{
+    let directions = directions_of(sums);
+    let members = directions.as_slice();
+    let mut least = axis_cut(sums, d);
+    for (place, member) in members.iter().enumerate() {
+        least = least_with(sums, d, least, *member, &members[..place]);
+    }
+    least
+}
+
+/// The cut of a signed axis along which the demand is not 0.
+fn axis_cut(sums: &Sums, d: Vec3) -> Cut
+    requires demand { IsDemandVector d }
+    requires not_zero { d ≢ zero_vector }
+    ensures { IsCut sums.now d result }
+{
+    let axis = if d.x != 0 {
+        Vec3 {
+            x: d.x.signum(),
+            y: 0,
+            z: 0,
+        }
+    } else if d.y != 0 {
+        Vec3 {
+            x: 0,
+            y: d.y.signum(),
+            z: 0,
+        }
+    } else {
+        Vec3 {
+            x: 0,
+            y: 0,
+            z: d.z.signum(),
+        }
+    };
+    cut_of(sums, d, axis)
+}
+
+/// The least of a cut and those of the normals of one direction and each of some others.
+fn least_with(sums: &Sums, d: Vec3, cut: Cut, direction: Vec3, others: &[Vec3]) -> Cut
+    requires demand { IsDemandVector d }
+    requires cut { IsCut sums.now d cut }
+    requires direction { IsDirection direction }
+    requires others { All IsDirection others.now }
+    ensures cut { IsCut sums.now d result }
+    ensures at_most { IsAtMost result cut }
+    ensures at_most_others { All (λ other. IsAtMostAlong sums.now d result (cross_of direction other)) others.now }
+{
+    let mut least = cut;
+    for other in others {
+        least = least_along(sums, d, least, cross(direction, *other));
+    }
+    least
+}
+
+/// The lesser of a cut and that of a normal or of its opposite, whichever is ahead of the demand. Neither is where the
+/// normal is perpendicular to the demand, as where it is zero.
+fn least_along(sums: &Sums, d: Vec3, cut: Cut, normal: Vec3) -> Cut
+    requires demand { IsDemandVector d }
+    requires cut { IsCut sums.now d cut }
+    requires normal { IsNormal normal }
+    ensures cut { IsCut sums.now d result }
+    ensures at_most { IsAtMost result cut }
+    ensures at_most_normal { IsAtMostAlong sums.now d result normal }
+{
+    match ahead_of(normal, d) {
+        Some(w) => lesser(cut, cut_of(sums, d, w)),
+        None => cut,
+    }
+}
+
+/// The normal or its opposite, whichever is ahead of the demand: whose product with it is at least 1. None where the
+/// normal is perpendicular to the demand.
+fn ahead_of(normal: Vec3, d: Vec3) -> Option<Vec3>
+    requires demand { IsDemandVector d }
+    requires normal { IsNormal normal }
+    ensures none { IfNone result (dot_of normal d ≡ pos 0) }
+    ensures either { IfSome result (λ w. (w ≡ normal) ⊎ (w ≡ opposite_of normal)) }
+    ensures within { IfSome result IsNormal }
+    ensures ahead { IfSome result (λ w. pos 1 ≤ℤ dot_of w d) }
+{
+    let along = product(normal, d);
+    if along > 0 {
+        Some(normal)
+    } else if along < 0 {
+        Some(opposite(normal))
+    } else {
+        None
+    }
+}
+
+/// The cut of a direction that is ahead of the demand.
+fn cut_of(sums: &Sums, d: Vec3, w: Vec3) -> Cut
+    requires demand { IsDemandVector d }
+    requires normal { IsNormal w }
+    requires ahead { pos 1 ≤ℤ dot_of w d }
+    ensures direction { result.w ≡ w }
+    ensures cut { IsCut sums.now d result }
+{
+    Cut {
+        w,
+        top: reach(sums, w),
+        bottom: product(w, d),
+    }
+}
+
+/// The cut with the lesser quotient, and the first where they are equal.
+fn lesser(first: Cut, second: Cut) -> Cut
+    ensures one { (result ≡ first) ⊎ (result ≡ second) }
+    ensures at_most_first { IsAtMost result first }
+    ensures at_most_second { IsAtMost result second }
+{
+    if across(second.top, first.bottom) < across(first.top, second.bottom) {
+        second
+    } else {
+        first
+    }
+}
+
+fn across(a: i64, b: i64) -> i128
+    ensures { result ≡ a *ℤ b }
+{
+    a as i128 * b as i128
+}

@@ -1,0 +1,12 @@
+//! The least cut: of all whole directions the one in which a demand passes what the thrusters reach together the soonest.
+#![tactic(auto)]
+
+mod candidates;
+mod directions;
+mod reach;
+#[cfg(test)]
+mod tests;
+
+pub use candidates::least_cut;
+pub use directions::{DIRECTION_FORCE, DIRECTION_MOMENT, NORMAL_FORCE, NORMAL_MOMENT};
+pub use wrench_geometry::{CUT_PARTS_BELOW, Cut};
