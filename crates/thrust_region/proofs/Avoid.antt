@@ -1,13 +1,12 @@
 -- No thrust that lies in a piece is strictly inside a sector.
-use Rattle.std.proofs.Common.{◌≡◌, ◌∙◌, ap, ap₂, sym, refl, inl, inr, ℕ, zero, suc, ◌+◌, ◌-◌, ◌<◌, ◌≤◌, ◌≢◌, ℤ, pos, neg_ℤ, ◌+ℤ◌, ◌-ℤ◌, ◌*ℤ◌, ◌≤ℤ◌, ◌<ℤ◌, int_le, int_lt, List, [], ◌∷◌, ◌++◌, length, map, get_or, Bool, true, false, cond, subst, ◌⊎◌, ◌||◌, length-append, arith}
-use Rattle.std.specs.Prelude.{filter, flat_map, ◌==◌}
-use Rattle.std.specs.List.{list_all, list_any, Contains}
-use Rattle.std.proofs.Math.Dec.{eqb, ltb}
+use Rattle.std.proofs.Common.{◌≡◌, ◌∙◌, ap₂, sym, refl, inl, inr, ℕ, zero, suc, ◌+◌, ◌<◌, ◌≢◌, ℤ, pos, neg_ℤ, ◌+ℤ◌, ◌-ℤ◌, ◌*ℤ◌, ◌≤ℤ◌, ◌<ℤ◌, int_le, List, [], ◌∷◌, ◌++◌, length, map, get_or, Bool, true, false, subst, ◌⊎◌, ◌||◌, length-append, arith}
+use Rattle.std.specs.Prelude.{filter}
+use Rattle.std.specs.List.{list_any, Contains}
+use Rattle.std.proofs.Math.Dec.{eqb}
 use Rattle.std.proofs.lemmas.Bool.{eqb-true, ltb-true}
 use Rattle.std.proofs.lemmas.Bool.Decides.{nat_tests}
 use Rattle.std.proofs.lemmas.Int.{by_lt_z}
 use Rattle.std.proofs.lemmas.List.{length-map}
-use Rattle.std.proofs.lemmas.List.Folds.{flat_map-map}
 use Rattle.int_ring.proofs.Laws.{linear, mul_nonneg, mul_pos, mul_zero, square_nonneg}
 use Rattle.int_ring.proofs.Order.{cancel_left, nonneg_of_mul_nonneg, pos_of_mul_pos, zero_factor}
 use Rattle.int_ring.proofs.Ring.{ring as identity, reads}
@@ -15,16 +14,16 @@ use Rattle.plant_model.specs.declared.thrust.Point.{Point}
 use Rattle.plant_model.specs.declared.thrust.Sector.{Sector}
 use Rattle.plant_model.specs.declared.thrust.Thrust.{Thrust}
 use Rattle.plant_model.specs.Lies.{weighted_x, weighted_y, LiesIn}
-use Rattle.plant_model.specs.Rings.{are_sectors, cross, cut, dot, edges_between, is_border, is_ring, is_round, origin, place_after, places, point_at, run_from, side, wedges, wedges_along, IsInner, IsOnRay, IsBetweenRays, IsStrictlyInside}
+use Rattle.plant_model.specs.Rings.{are_sectors, cross, cut, dot, edges_between, is_ring, is_round, place_after, places, point_at, run_from, wedges_along, IsInner, IsOnRay, IsBetweenRays, IsStrictlyInside}
 use Rattle.thrust_region.specs.Exact.{point_of, AvoidSectors}
 use Rattle.thrust_region.proofs.Cuts.{cut_by_places, cut_whole, whole_run_walk}
 use Rattle.thrust_region.proofs.Lists.{all_at, Each, Each-contains, Each-filter, Each-flat_map}
-use Rattle.thrust_region.proofs.Parts.{free_after, free_end, open_after, walk_is_linked, wedges_are, AreLinked, IsFree, IsOpen, IsFreePoint, IsOpenEdge, IsWedge}
+use Rattle.thrust_region.proofs.Parts.{free_after, free_end, open_after, walk_is_linked, wedges_are, AreLinked, IsFree, IsOpen, IsOpenEdge, IsWedge}
 use Rattle.thrust_region.proofs.Plane.{apart, cross_from, cross_to, form, on_ray_before, total, total_is, total_nonneg, total_zero}
 use Rattle.thrust_region.proofs.Rings.{at_least_left, edge_turns, is_left, next_is_other, ring_is_round, round_has_three, second_is_other}
 use Rattle.thrust_region.proofs.Runs.{begins_at, ends_at, run-walk, walk, walk_has_some}
-use Rattle.thrust_region.proofs.Sectors.{all-range, sector_of, IsOneOf}
-use Rattle.thrust_region.proofs.Signs.{at_most_from_test, below_from_test}
+use Rattle.thrust_region.proofs.Sectors.{IsOneOf}
+use Rattle.thrust_region.proofs.Signs.{at_most_from_test}
 
 -- ---- a thrust in a piece is in the angle of an open edge, or on the ray of a free place
 

@@ -1,8 +1,10 @@
 -- Lists in two parts.
-use Rattle.std.proofs.Common.{◌≡◌, ◌∙◌, ap, sym, refl, ℕ, zero, suc, ◌+◌, ◌<◌, ◌≤◌, ◌++◌, List, [], ◌∷◌, length, map, drop, take, get_or, subst, Bool, true, false, cond, append_assoc, append-nil, length-append, drop-cons, add-one, arith}
+use Rattle.std.proofs.Common.{◌≡◌, ◌∙◌, ap, sym, refl, ℕ, zero, suc, ◌+◌, ◌<◌, ◌≤◌, ◌++◌, List, [], ◌∷◌, length, map, drop, take, get_or, subst, inl, inr, ◌⊎◌, Bool, true, false, cond, append_assoc, append-nil, length-append, drop-cons, add-one, arith}
 use Rattle.std.specs.Prelude.{filter, flat_map}
 use Rattle.std.specs.List.{list_all, prefix_len, range_with_len, take_while, Contains}
-use Rattle.std.proofs.lemmas.Bool.{and_from, and_parts}
+use Rattle.std.proofs.Math.Dec.{eqb}
+use Rattle.std.proofs.lemmas.Bool.{and_from, and_parts, eqb-true}
+use Rattle.std.proofs.lemmas.Bool.Decides.{nat_tests}
 use Rattle.std.proofs.lemmas.List.{length-map, map-append}
 
 -- the first element of the second part goes over to the first part
@@ -82,3 +84,54 @@ Each-take_while {A} test (x ∷ xs) = by_test (test x) refl (Each-take_while tes
     by_test : (b : Bool) → test x ≡ b → Each (λ (y : A). test y ≡ true) (take_while test xs) → Each (λ (y : A). test y ≡ true) (take (cond b (1 + prefix_len test xs) 0) (x ∷ xs))
     by_test true is others = let count : 1 + prefix_len test xs ≡ suc (prefix_len test xs) = omega arith in rw count (is, others)
     by_test false is others = tt
+
+-- ---- facts of some element
+
+abbrev pub SomeOf : {A : Type 0} → (A → Type 0) → List A → Type 0
+SomeOf P [] = ⊥
+SomeOf P (x ∷ xs) = P x ⊎ SomeOf P xs
+
+pub SomeOf-left : {A : Type 0} (P : A → Type 0) (xs ys : List A) → SomeOf P xs → SomeOf P (xs ++ ys)
+SomeOf-left P [] ys some = absurd some
+SomeOf-left P (x ∷ xs) ys (inl one) = inl one
+SomeOf-left P (x ∷ xs) ys (inr others) = inr (SomeOf-left P xs ys others)
+
+pub SomeOf-right : {A : Type 0} (P : A → Type 0) (xs ys : List A) → SomeOf P ys → SomeOf P (xs ++ ys)
+SomeOf-right P [] ys some = some
+SomeOf-right P (x ∷ xs) ys some = inr (SomeOf-right P xs ys some)
+
+pub SomeOf-flat_map : {A B : Type 0} (P : B → Type 0) (f : A → List B) (xs : List A) → SomeOf (λ x. SomeOf P (f x)) xs → SomeOf P (flat_map f xs)
+SomeOf-flat_map P f [] some = absurd some
+SomeOf-flat_map P f (x ∷ xs) (inl one) = SomeOf-left P (f x) (flat_map f xs) one
+SomeOf-flat_map P f (x ∷ xs) (inr others) = SomeOf-right P (f x) (flat_map f xs) (SomeOf-flat_map P f xs others)
+
+pub SomeOf-filter : (P : ℕ → Type 0) (test : ℕ → Bool) (from count i : ℕ) → from ≤ i → i < from + count → test i ≡ true → P i → SomeOf P (filter test (range_with_len from count))
+SomeOf-filter P test from zero i low high is one = absurd (omega arith)
+SomeOf-filter P test from (suc count) i low high is one =
+    by_tests (test from) (eqb from i) refl refl (λ (more : from + 1 ≤ i). SomeOf-filter P test (from + 1) count i more (omega arith) is one)
+  where
+    by_tests : (b e : Bool) → test from ≡ b → eqb from i ≡ e → (from + 1 ≤ i → SomeOf P (filter test (range_with_len (from + 1) count))) →
+        SomeOf P (cond b (from ∷ filter test (range_with_len (from + 1) count)) (filter test (range_with_len (from + 1) count)))
+    by_tests true true g h others = inl (subst P (sym (eqb-true from i h)) one)
+    by_tests false true g h others = let same : test from ≡ true = rw (eqb-true from i h) is in cc
+    by_tests true false g h others = inr (others (grind (arith, nat_tests)))
+    by_tests false false g h others = others (grind (arith, nat_tests))
+
+pub SomeOf-map : {A : Type 0} (P Q : A → Type 0) (xs : List A) → ((x : A) → P x → Q x) → SomeOf P xs → SomeOf Q xs
+SomeOf-map P Q [] f some = absurd some
+SomeOf-map P Q (x ∷ xs) f (inl one) = inl (f x one)
+SomeOf-map P Q (x ∷ xs) f (inr others) = inr (SomeOf-map P Q xs f others)
+
+pub SomeOf-contains : {A : Type 0} (P : A → Type 0) (xs : List A) → SomeOf P xs → (x : A) × Contains xs x × P x
+SomeOf-contains P [] some = absurd some
+SomeOf-contains P (x ∷ xs) (inl one) = (x, (0, omega arith, refl), one)
+SomeOf-contains P (x ∷ xs) (inr others) =
+    let s = SomeOf-contains P xs others in
+    (s.0, (suc s.1.0, (let there = s.1.1 in omega arith), s.1.2), s.2)
+
+-- ---- parts of lists
+
+-- the part stands somewhere in the list
+pub record HasPart {A : Type 0} (part list : List A) : Type 0 where
+  pub from : ℕ
+  pub is : take (length part) (drop from list) ≡ part

@@ -1,17 +1,16 @@
 -- Runs and their wedges keep to places and edges that no sector takes.
-use Rattle.std.proofs.Common.{◌≡◌, ◌∙◌, ap, sym, refl, inl, inr, ℕ, zero, suc, ◌+◌, ◌-◌, ◌<◌, ◌≤◌, ◌≢◌, ℤ, pos, ◌≤ℤ◌, ◌<ℤ◌, int_le, List, [], ◌∷◌, ◌++◌, length, map, take, drop, Bool, true, false, cond, subst, arith}
+use Rattle.std.proofs.Common.{◌≡◌, sym, refl, ℕ, zero, suc, ◌-◌, ◌<◌, ◌≢◌, pos, int_le, List, [], ◌∷◌, length, map, take, drop, Bool, true, false, cond, subst, arith}
 use Rattle.std.proofs.Math.Dec.{eqb, ltb}
 use Rattle.std.proofs.lemmas.Bool.{eq-eqb, eqb-true, ltb-true}
 use Rattle.std.proofs.lemmas.Bool.Decides.{nat_tests}
 use Rattle.std.proofs.lemmas.List.{length-drop}
-use Rattle.std.specs.List.{list_all, list_any, take_while}
+use Rattle.std.specs.List.{take_while}
 use Rattle.plant_model.specs.declared.thrust.Point.{Point}
 use Rattle.plant_model.specs.declared.thrust.Sector.{Sector}
 use Rattle.plant_model.specs.Rings.{are_sectors, cross, edges_between, first_wedge, place_after, point_at, wedges, IsInner}
 use Rattle.thrust_region.proofs.Lists.{Each, Each-take, Each-take_while}
 use Rattle.thrust_region.proofs.Runs.{begins_at, ends_at, walk}
-use Rattle.thrust_region.proofs.Sectors.{edge_is_before, edge_to_next, edges_none, edges_step, ending, not_covered, sector_of, EdgeIsBefore, EndsHere, IsOneOf, IsSector}
-use Rattle.thrust_region.proofs.Signs.{at_most_from_test}
+use Rattle.thrust_region.proofs.Sectors.{edge_is_before, edge_to_next, edges_none, edges_step, ending, not_covered, sector_of, IsOneOf}
 use Rattle.thrust_region.proofs.Wedges.{front_more, turns_from_itself}
 
 module _ (ring : List Point) (sectors : List Sector) where

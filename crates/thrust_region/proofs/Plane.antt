@@ -1,7 +1,7 @@
 -- Thrusts of the plane: sums of points with weights, and the angles of two edges.
-use Rattle.std.proofs.Common.{◌≡◌, ◌∙◌, ap, sym, refl, ℕ, suc, ℤ, pos, neg_ℤ, ◌+ℤ◌, ◌-ℤ◌, ◌*ℤ◌, ◌≤ℤ◌, ◌<ℤ◌, List, [], ◌∷◌, length, arith, ◌⊎◌, inl, inr}
+use Rattle.std.proofs.Common.{◌≡◌, ◌∙◌, ap, refl, ℕ, ℤ, pos, neg_ℤ, ◌+ℤ◌, ◌-ℤ◌, ◌*ℤ◌, ◌≤ℤ◌, ◌<ℤ◌, List, [], ◌∷◌, arith, ◌⊎◌, inl, inr}
 use Rattle.int_ring.proofs.Laws.{linear, mul_nonneg, mul_pos, square_nonneg, zero_mul}
-use Rattle.int_ring.proofs.Order.{cancel_left, mul_le_left, nonneg_of_mul_nonneg, pos_of_mul_pos, zero_factor}
+use Rattle.int_ring.proofs.Order.{pos_of_mul_pos, zero_factor}
 use Rattle.int_ring.proofs.Ring.{ring, reads}
 use Rattle.plant_model.specs.declared.thrust.Point.{Point}
 use Rattle.plant_model.specs.Lies.{weighted_x, weighted_y}

@@ -80,10 +80,10 @@ all-range test a (suc n) i h low high =
 
 -- ---- edges between places
 
-abbrev EdgesAre : ℕ → ℕ → ℕ → Type 0
+abbrev pub EdgesAre : ℕ → ℕ → ℕ → Type 0
 EdgesAre n from to = ((from ≤ to) × (edges_between n from to + from ≡ to)) ⊎ ((to < from) × (edges_between n from to + from ≡ to + n))
 
-edges_are : (n from to : ℕ) → from < n → to < n → EdgesAre n from to
+pub edges_are : (n from to : ℕ) → from < n → to < n → EdgesAre n from to
 edges_are n from to there here = by_test (ltb to from) refl
   where
     by_test : (b : Bool) → ltb to from ≡ b → EdgesAre n from to
@@ -136,7 +136,7 @@ edge_is_before n zero there = (n - 1, inr (refl, omega arith))
 edge_is_before n (suc place) there = (place, inl (omega arith, there))
 
 -- a sector covers the edge before its end
-covers_last : (n edge from to : ℕ) → from < n → to < n → from ≢ to → EdgeIsBefore n edge to → edges_between n from edge < edges_between n from to
+pub covers_last : (n edge from to : ℕ) → from < n → to < n → from ≢ to → EdgeIsBefore n edge to → edges_between n from edge < edges_between n from to
 unfolding EdgeIsBefore
 covers_last n edge from to h k apart before =
     elim before [
@@ -193,6 +193,57 @@ edges_none n from place h k none = by_cases (edges_are n from place h k)
     by_cases (inl a) = omega arith
     by_cases (inr a) = omega arith
 
+pub self_none : (n from place : ℕ) → from < n → place < n → from ≡ place → edges_between n from place ≡ 0
+self_none n from place h k same = by_cases (edges_are n from place h k)
+  where
+    by_cases : EdgesAre n from place → edges_between n from place ≡ 0
+    by_cases (inl a) = omega arith
+    by_cases (inr a) = omega arith
+
+pub others_some : (n from to : ℕ) → from < n → to < n → from ≢ to → 0 < edges_between n from to
+others_some n from to h k apart = by_cases (edges_are n from to h k)
+  where
+    by_cases : EdgesAre n from to → 0 < edges_between n from to
+    by_cases (inl a) = omega arith
+    by_cases (inr a) = omega arith
+
+pub edges_below : (n from to : ℕ) → from < n → to < n → edges_between n from to < n
+edges_below n from to h k = by_cases (edges_are n from to h k)
+  where
+    by_cases : EdgesAre n from to → edges_between n from to < n
+    by_cases (inl a) = omega arith
+    by_cases (inr a) = omega arith
+
+-- places to which as many edges lead are one
+pub same_edges : (n from a b : ℕ) → from < n → a < n → b < n → edges_between n from a ≡ edges_between n from b → a ≡ b
+same_edges n from a b h k l same = by_cases (edges_are n from a h k) (edges_are n from b h l)
+  where
+    by_cases : EdgesAre n from a → EdgesAre n from b → a ≡ b
+    by_cases (inl c) (inl d) = omega arith
+    by_cases (inl c) (inr d) = omega arith
+    by_cases (inr c) (inl d) = omega arith
+    by_cases (inr c) (inr d) = omega arith
+
+-- the edge before a place is as far as it can be
+pub edges_last : (n edge place : ℕ) → place < n → edge < n → EdgeIsBefore n edge place → edges_between n place edge + 1 ≡ n
+unfolding EdgeIsBefore
+edges_last n edge place h k before = by_cases (edges_are n place edge h k) before
+  where
+    by_cases : EdgesAre n place edge → EdgeIsBefore n edge place → edges_between n place edge + 1 ≡ n
+    by_cases (inl c) (inl d) = omega arith
+    by_cases (inl c) (inr d) = omega arith
+    by_cases (inr c) (inl d) = omega arith
+    by_cases (inr c) (inr d) = omega arith
+
+-- and the edge that is so far is the one before it
+pub last_edge : (n edge place : ℕ) → place < n → edge < n → edges_between n place edge + 1 ≡ n → EdgeIsBefore n edge place
+unfolding EdgeIsBefore
+last_edge n edge place h k far = by_cases (edges_are n place edge h k)
+  where
+    by_cases : EdgesAre n place edge → EdgeIsBefore n edge place
+    by_cases (inl c) = inr (omega arith, omega arith)
+    by_cases (inr c) = inl (omega arith, omega arith)
+
 -- ---- sectors of a ring
 
 sectors_fit : (n : ℕ) (sectors : List Sector) → are_sectors n sectors ≡ true → list_all (is_sector n) sectors ≡ true
@@ -213,20 +264,20 @@ sector_is n s h = record { from = grind (arith, nat_tests); to = grind (arith, n
 pub sector_of : (n : ℕ) (sectors : List Sector) (s : Sector) → are_sectors n sectors ≡ true → IsOneOf sectors s → IsSector n s
 sector_of n sectors s valid one = sector_is n s (one.all (is_sector n) (sectors_fit n sectors valid))
 
--- sectors that cover one edge end at one place
-pub same_end : (n : ℕ) (sectors : List Sector) (edge : ℕ) (a b : Sector) → are_sectors n sectors ≡ true → edge < n → IsOneOf sectors a → IsOneOf sectors b →
-    is_covered_by n edge a ≡ true → is_covered_by n edge b ≡ true → a.to ≢ b.to → ⊥
-same_end n sectors edge a b valid there one two h k apart =
+-- sectors that cover one edge are alike, whatever number of them is compared
+pub same_sector : (key : Sector → ℕ) (n : ℕ) (sectors : List Sector) (edge : ℕ) (a b : Sector) → are_sectors n sectors ≡ true → edge < n → IsOneOf sectors a → IsOneOf sectors b →
+    is_covered_by n edge a ≡ true → is_covered_by n edge b ≡ true → key a ≢ key b → ⊥
+same_sector key n sectors edge a b valid there one two h k apart =
     let once : leb (count_by (is_covered_by n edge) sectors) 1 ≡ true =
     all-range (λ e. leb (count_by (is_covered_by n e) sectors) 1) 0 n edge (covered_once n sectors valid) (omega arith) (omega arith) in
     let few : count_by (is_covered_by n edge) sectors ≤ 1 = grind (arith, nat_tests) in
     let many : 2 ≤ count_by (is_covered_by n edge) sectors =
-    count_two (λ s. eqb s.to a.to && is_covered_by n edge s) (λ s. eqb s.to b.to && is_covered_by n edge s) (is_covered_by n edge) sectors
-    (λ s e. (and_parts (eqb s.to a.to) (is_covered_by n edge s) e).1)
-    (λ s e. (and_parts (eqb s.to b.to) (is_covered_by n edge s) e).1)
-    (λ s e f. apart (sym (eqb-true s.to a.to (and_parts (eqb s.to a.to) (is_covered_by n edge s) e).0) ∙ eqb-true s.to b.to (and_parts (eqb s.to b.to) (is_covered_by n edge s) f).0))
-    (one.any (λ s. eqb s.to a.to && is_covered_by n edge s) (and_from (eqb a.to a.to) (is_covered_by n edge a) (eq-eqb a.to a.to refl) h))
-    (two.any (λ s. eqb s.to b.to && is_covered_by n edge s) (and_from (eqb b.to b.to) (is_covered_by n edge b) (eq-eqb b.to b.to refl) k)) in
+    count_two (λ s. eqb (key s) (key a) && is_covered_by n edge s) (λ s. eqb (key s) (key b) && is_covered_by n edge s) (is_covered_by n edge) sectors
+    (λ s e. (and_parts (eqb (key s) (key a)) (is_covered_by n edge s) e).1)
+    (λ s e. (and_parts (eqb (key s) (key b)) (is_covered_by n edge s) e).1)
+    (λ s e f. apart (sym (eqb-true (key s) (key a) (and_parts (eqb (key s) (key a)) (is_covered_by n edge s) e).0) ∙ eqb-true (key s) (key b) (and_parts (eqb (key s) (key b)) (is_covered_by n edge s) f).0))
+    (one.any (λ s. eqb (key s) (key a) && is_covered_by n edge s) (and_from (eqb (key a) (key a)) (is_covered_by n edge a) (eq-eqb (key a) (key a) refl) h))
+    (two.any (λ s. eqb (key s) (key b) && is_covered_by n edge s) (and_from (eqb (key b) (key b)) (is_covered_by n edge b) (eq-eqb (key b) (key b) refl) k)) in
     omega arith
 
 -- a sector from outside the places from one end on to the next covers the edge before the first of them
@@ -293,7 +344,7 @@ module _ (n : ℕ) (sectors : List Sector) (valid : are_sectors n sectors ≡ tr
       let below : edge < n = elim before [ inl e ↦ omega arith | inr e ↦ omega arith ] in
       let own : edges_between n a.sector.from edge < edges_between n a.sector.from a.sector.to = covers_last n edge a.sector.from a.sector.to a.is.from a.is.to a.is.apart (rw a.ends before) in
       let other : edges_between n b.sector.from edge < edges_between n b.sector.from b.sector.to = rw b.ends covers in
-      same_end n sectors edge a.sector b.sector valid below a.one b.one
+      same_sector (λ s. s.to) n sectors edge a.sector b.sector valid below a.one b.one
       (lt-ltb (edges_between n a.sector.from edge) (edges_between n a.sector.from a.sector.to) own)
       (lt-ltb (edges_between n b.sector.from edge) (edges_between n b.sector.from b.sector.to) other)
       (λ e. apart (sym a.ends ∙ e ∙ b.ends))

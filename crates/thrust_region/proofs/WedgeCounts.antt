@@ -16,12 +16,12 @@ abbrev pub AreTurning : List Point → Type 0
 AreTurning [] = Unit {0}
 AreTurning (p ∷ ps) = TurnsTo p ps × AreTurning ps
 
-AreTurning-drop : (k : ℕ) (run : List Point) → AreTurning run → AreTurning (drop k run)
+pub AreTurning-drop : (k : ℕ) (run : List Point) → AreTurning run → AreTurning (drop k run)
 AreTurning-drop zero run turning = turning
 AreTurning-drop (suc k) [] turning = tt
 AreTurning-drop (suc k) (p ∷ ps) turning = AreTurning-drop k ps turning.1
 
-wedge_has_two : (p q : Point) (rest : List Point) → int_le (pos 0) (cross p q) ≡ true → 2 ≤ length (first_wedge (p ∷ q ∷ rest))
+pub wedge_has_two : (p q : Point) (rest : List Point) → int_le (pos 0) (cross p q) ≡ true → 2 ≤ length (first_wedge (p ∷ q ∷ rest))
 wedge_has_two p q rest turning =
     rw (front_more (λ r. int_le (pos 0) (cross p r)) 7 p (q ∷ rest) (turns_from_itself p), front_more (λ r. int_le (pos 0) (cross p r)) 6 q rest turning) (omega arith)
 

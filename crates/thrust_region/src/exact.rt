@@ -5,4 +5,5 @@ ghost use Rattle.thrust_region.specs.Exact.{AvoidSectors, CoverTheRest};
 /// each thrust that lies in the ring and is strictly inside no sector lies in a piece. Calling it does nothing.
 pub fn pieces_are_exact()
     ensures avoid { AvoidSectors }
+    ensures cover { CoverTheRest }
 {}
