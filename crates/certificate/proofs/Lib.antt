@@ -1,0 +1,4 @@
+pub mod Among
+pub mod Lines
+pub mod Hulls
+pub mod Reach
