@@ -10,7 +10,7 @@ use Rattle.frame.specs.declared.item.Item.TheVariants.{Body, Damaged}
 use Rattle.plant_model.specs.declared.limits.TheConstants.{MOST_ENTRIES, MOST_STREAM_BYTES}
 use Rattle.plant_model.specs.declared.plant.Parts.{Parts}
 use Rattle.plant_core.specs.Telegrams.{telegram}
-use Rattle.plant_core.specs.Machine.{HasRoom, next, next_state, opening, replay}
+use Rattle.plant_core.specs.Machine.{HasRoom, next, next_state, opening, state_after}
 use Rattle.plant_core.specs.declared.call.Call.{Call}
 use Rattle.plant_core.specs.declared.call.Entry.{Entry}
 use Rattle.plant_core.specs.declared.call.Reply.{Reply}
@@ -57,7 +57,7 @@ counts-from plant state (entry ∷ history) (item ∷ answered) e =
 
 -- the state after a history that answers the items
 pub counts : (plant : Parts) (history : List Entry) (answered : List Item) → AnswersItems history answered
-    → CountsAll (opening plant) (replay plant history) (length answered)
+    → CountsAll (opening plant) (state_after plant history) (length answered)
 counts plant history answered e = counts-from plant (opening plant) history answered e
 
 room-by : (limit : ℕ) (state : State) (read : Result TelegramKind Reject) → state.events < limit → HasRoom limit state (asked_by read).1

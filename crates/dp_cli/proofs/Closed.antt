@@ -6,7 +6,7 @@ use Rattle.dp_io.specs.Streams.{Gave}
 use Rattle.frame.specs.declared.item.Item.{Item}
 use Rattle.plant_model.specs.declared.limits.TheConstants.{MOST_ENTRIES}
 use Rattle.plant_model.specs.declared.plant.Parts.{Parts}
-use Rattle.plant_core.specs.Machine.{IsLegal, Machine}
+use Rattle.plant_core.specs.Machine.{IsLegal, CoreView}
 use Rattle.plant_core.specs.declared.call.Call.TheVariants.{Close}
 use Rattle.plant_core.specs.declared.call.Entry.{Entry}
 use Rattle.plant_core.specs.declared.call.Reply.{Reply}
@@ -33,22 +33,22 @@ stands-closed plant source ending bytes history closed entry gave ends answers c
     }
 
 -- the plant is the one that the session started with
-pub session-plant : (plant : Parts) (started old new : Machine) (reply : Reply) → started ≡ record { plant = plant; limit = MOST_ENTRIES; history = [] }
+pub session-plant : (plant : Parts) (started old new : CoreView) (reply : Reply) → started ≡ record { plant = plant; limit = MOST_ENTRIES; history = [] }
     → old.plant ≡ started.plant → new ≡ record old { history = old.history ++ record { caller = 0; call = Close; reply = reply } ∷ [] } → new.plant ≡ plant
 session-plant plant started old new reply start same closed =
-    ap (λ (m : Machine). m.plant) closed ∙ same ∙ ap (λ (m : Machine). m.plant) start
+    ap (λ (m : CoreView). m.plant) closed ∙ same ∙ ap (λ (m : CoreView). m.plant) start
 
 -- the history of a session that started, answered a stream and closed
-pub session-stands : (plant : Parts) (source : Shown) (ending : Ending) (started old inside new : Machine) (reply : Reply)
+pub session-stands : (plant : Parts) (source : Shown) (ending : Ending) (started old inside new : CoreView) (reply : Reply)
     → started ≡ record { plant = plant; limit = MOST_ENTRIES; history = [] } → old.plant ≡ started.plant → old.limit ≡ started.limit
     → ((bytes : List ℕ) × Gave source.before source.after bytes × MayEnd source bytes ending × AnswersItems old.history (items_until ending bytes))
     → new ≡ record old { history = old.history ++ record { caller = 0; call = Close; reply = reply } ∷ [] }
     → inside ≡ new → IsLegal inside.plant inside.limit inside.history → StandsForStream plant source ending new.history
 session-stands plant source ending started old inside new reply start same_plant same_limit answered closed seen legal =
-    let limit : new.limit ≡ MOST_ENTRIES = ap (λ (m : Machine). m.limit) closed ∙ same_limit ∙ ap (λ (m : Machine). m.limit) start in
-    let legal_new : IsLegal new.plant new.limit new.history = subst (λ (m : Machine). IsLegal m.plant m.limit m.history) seen legal in
+    let limit : new.limit ≡ MOST_ENTRIES = ap (λ (m : CoreView). m.limit) closed ∙ same_limit ∙ ap (λ (m : CoreView). m.limit) start in
+    let legal_new : IsLegal new.plant new.limit new.history = subst (λ (m : CoreView). IsLegal m.plant m.limit m.history) seen legal in
     let limited : IsLegal new.plant MOST_ENTRIES new.history = subst (λ (l : ℕ). IsLegal new.plant l new.history) limit legal_new in
     let planted : IsLegal plant MOST_ENTRIES new.history =
     subst (λ (p : Parts). IsLegal p MOST_ENTRIES new.history) (session-plant plant started old new reply start same_plant closed) limited in
     stands-closed plant source ending answered.0 old.history new.history (record { caller = 0; call = Close; reply = reply }) answered.1 answered.2 answered.3
-    refl (ap (λ (m : Machine). m.history) closed) planted
+    refl (ap (λ (m : CoreView). m.history) closed) planted

@@ -6,7 +6,7 @@ use Rattle.frame.specs.Frames.{damage_number}
 use Rattle.plant_model.specs.declared.parts.Group.{Group}
 use Rattle.plant_model.specs.declared.plant.Parts.{Parts}
 use Rattle.plant_core.specs.Telegrams.{telegram_text, reject_number}
-use Rattle.plant_core.specs.Machine.{replay}
+use Rattle.plant_core.specs.Machine.{state_after}
 use Rattle.plant_core.specs.declared.call.Call.{Call}
 use Rattle.plant_core.specs.declared.call.Call.TheVariants.{Telegram, Note, Close}
 use Rattle.plant_core.specs.declared.call.Note.{Note as NoteKind}
@@ -62,4 +62,4 @@ group_text group = line (codes "GROUP," ++ group.name ++ codes ",PENDING")
 
 -- the latest version, the count of telegrams and notes, and a line for each group
 abbrev pub report_text : Parts → List Entry → List ℕ
-report_text plant history = report_head (replay plant history) ++ flat_map group_text plant.groups.items ++ line (codes "END")
+report_text plant history = report_head (state_after plant history) ++ flat_map group_text plant.groups.items ++ line (codes "END")

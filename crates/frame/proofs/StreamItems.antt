@@ -5,7 +5,7 @@ use Rattle.std.proofs.lemmas.List.Elements.{filter_map-append}
 use Rattle.std.specs.List.{filter_map, cons_option}
 use Rattle.std.specs.Option.{option_to_list}
 use Rattle.std.specs.Str.Lines.{strip_carriage_return}
-use Rattle.frame.specs.declared.body.TheConstants.{MOST_BODY_BYTES}
+use Rattle.frame.specs.declared.framer.TheConstants.{MOST_FRAME_BYTES, MOST_LINE_BYTES}
 use Rattle.frame.specs.declared.item.Damage.TheVariants.{Shape}
 use Rattle.frame.specs.declared.item.Item.{Item}
 use Rattle.frame.specs.declared.item.Item.TheVariants.{Damaged}
@@ -58,31 +58,31 @@ length-strip_carriage_return : (line : List ℕ) → length line ≤ length (str
 length-strip_carriage_return line = grind (arith, nat_tests, length-take)
 
 -- the body of a long content would be too long
-frame_body-long : (content : List ℕ) → MOST_BODY_BYTES + 4 < length content → frame_body content ≡ None
+frame_body-long : (content : List ℕ) → MOST_FRAME_BYTES < length content → frame_body content ≡ None
 frame_body-long content long =
     let count : length (take (length content - 4) (drop 1 content)) ≡ length content - 4 =
     simp (length-take, length-drop) (omega arith) in
     let no_body : is_body (take (length content - 4) (drop 1 content)) ≡ false = grind (arith, nat_tests) in
     grind (arith, nat_tests)
 
-pub item_of_line-overlong : (line : List ℕ) → MOST_BODY_BYTES + 5 < length line → item_of_line line ≡ Some (Damaged Shape)
+pub item_of_line-overlong : (line : List ℕ) → MOST_LINE_BYTES < length line → item_of_line line ≡ Some (Damaged Shape)
 item_of_line-overlong line long =
-    let content : MOST_BODY_BYTES + 4 < length (strip_carriage_return line) = omega (arith, length-strip_carriage_return line) in
+    let content : MOST_FRAME_BYTES < length (strip_carriage_return line) = omega (arith, length-strip_carriage_return line) in
     let no_frame : frame_body (strip_carriage_return line) ≡ None = frame_body-long (strip_carriage_return line) content in
     grind (arith, nat_tests)
 
 -- ---- what is kept
 
-kept-is : (line bytes : List ℕ) → Some bytes ≡ kept line → (bytes ≡ line) × (length line ≤ MOST_BODY_BYTES + 5)
+kept-is : (line bytes : List ℕ) → Some bytes ≡ kept line → (bytes ≡ line) × (length line ≤ MOST_LINE_BYTES)
 kept-is line bytes is = grind (arith, nat_tests)
 
-kept-overlong : (line : List ℕ) → None ≡ kept line → MOST_BODY_BYTES + 5 < length line
+kept-overlong : (line : List ℕ) → None ≡ kept line → MOST_LINE_BYTES < length line
 kept-overlong line is = grind (arith, nat_tests)
 
-kept-short : (line : List ℕ) → length line ≤ MOST_BODY_BYTES + 5 → Some line ≡ kept line
+kept-short : (line : List ℕ) → length line ≤ MOST_LINE_BYTES → Some line ≡ kept line
 kept-short line short = grind (arith, nat_tests)
 
-kept-long : (line : List ℕ) → MOST_BODY_BYTES + 5 < length line → None ≡ kept line
+kept-long : (line : List ℕ) → MOST_LINE_BYTES < length line → None ≡ kept line
 kept-long line long = grind (arith, nat_tests)
 
 pub StandsFor-feed : (fed : List ℕ) → StandsFor (Some []) (fed ++ line_feed ∷ [])
@@ -103,23 +103,23 @@ StandsFor-line : (kept_bytes : Option (List ℕ)) (fed : List ℕ) (byte : ℕ) 
 StandsFor-line kept_bytes fed byte other is = is ∙ ap kept (sym (open_line-other fed byte other))
 
 -- nothing is kept of a line that grows past what is kept
-pub StandsFor-full : (overlong : Bool) (bytes fed : List ℕ) (byte : ℕ) → ¬ (byte ≡ line_feed) → length bytes ≡ MOST_BODY_BYTES + 5
+pub StandsFor-full : (overlong : Bool) (bytes fed : List ℕ) (byte : ℕ) → ¬ (byte ≡ line_feed) → length bytes ≡ MOST_LINE_BYTES
     → StandsFor (cond overlong None (Some bytes)) fed → StandsFor None (fed ++ byte ∷ [])
 StandsFor-full true bytes fed byte other full stands =
-    let long : MOST_BODY_BYTES + 5 < length (open_line fed) = kept-overlong (open_line fed) stands in
+    let long : MOST_LINE_BYTES < length (open_line fed) = kept-overlong (open_line fed) stands in
     StandsFor-line None fed byte other (kept-long (open_line fed ++ byte ∷ []) (omega (arith, length-append (open_line fed) (byte ∷ []))))
 StandsFor-full false bytes fed byte other full stands =
     let same : length bytes ≡ length (open_line fed) = ap length (kept-is (open_line fed) bytes stands).0 in
     StandsFor-line None fed byte other (kept-long (open_line fed ++ byte ∷ []) (omega (arith, length-append (open_line fed) (byte ∷ []))))
 
 -- a byte that finds room is kept
-pub StandsFor-push : (overlong : Bool) (bytes fed : List ℕ) (byte : ℕ) → ¬ (byte ≡ line_feed) → length bytes < MOST_BODY_BYTES + 5
+pub StandsFor-push : (overlong : Bool) (bytes fed : List ℕ) (byte : ℕ) → ¬ (byte ≡ line_feed) → length bytes < MOST_LINE_BYTES
     → StandsFor (cond overlong None (Some bytes)) fed → StandsFor (cond overlong None (Some (bytes ++ byte ∷ []))) (fed ++ byte ∷ [])
 StandsFor-push true bytes fed byte other room stands =
-    let long : MOST_BODY_BYTES + 5 < length (open_line fed) = kept-overlong (open_line fed) stands in
+    let long : MOST_LINE_BYTES < length (open_line fed) = kept-overlong (open_line fed) stands in
     StandsFor-line None fed byte other (kept-long (open_line fed ++ byte ∷ []) (omega (arith, length-append (open_line fed) (byte ∷ []))))
 StandsFor-push false bytes fed byte other room stands =
     let same : bytes ≡ open_line fed = (kept-is (open_line fed) bytes stands).0 in
-    let short : length (bytes ++ byte ∷ []) ≤ MOST_BODY_BYTES + 5 = omega (arith, length-append bytes (byte ∷ [])) in
+    let short : length (bytes ++ byte ∷ []) ≤ MOST_LINE_BYTES = omega (arith, length-append bytes (byte ∷ [])) in
     StandsFor-line (Some (bytes ++ byte ∷ [])) fed byte other
     (kept-short (bytes ++ byte ∷ []) short ∙ ap (λ (line : List ℕ). kept (line ++ byte ∷ [])) same)

@@ -1,6 +1,6 @@
 -- Which bytes are a body.
-use Rattle.std.specs.Prelude.{ℕ, List, length, Bool, not, ◌&&◌, ◌==◌, nat_le}
-use Rattle.std.specs.List.{list_all}
+use Rattle.std.specs.Prelude.{ℕ, List, Bool, not, ◌&&◌, ◌==◌, nat_le}
+use Rattle.short_text.specs.ShortTexts.{is_short_text}
 use Rattle.frame.specs.declared.body.TheConstants.{MOST_BODY_BYTES}
 
 -- what begins a frame, and what stands before its checksum
@@ -16,4 +16,4 @@ is_body_byte b = nat_le 0x20 b && nat_le b 0x7E && not (b == dollar) && not (b =
 
 -- 1 to 120 of these
 abbrev pub is_body : List ℕ → Bool
-is_body bytes = nat_le 1 (length bytes) && nat_le (length bytes) MOST_BODY_BYTES && list_all is_body_byte bytes
+is_body bytes = is_short_text is_body_byte MOST_BODY_BYTES bytes

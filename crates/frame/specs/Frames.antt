@@ -3,7 +3,7 @@ use Rattle.std.specs.Prelude.{◌≡◌, ℕ, ◌+◌, ◌-◌, ◌*◌, List, [
 use Rattle.std.specs.List.{slice_split, filter_map, fold}
 use Rattle.std.specs.Str.Lines.{strip_carriage_return}
 use Rattle.frame.specs.Bodies.{is_body, dollar, star}
-use Rattle.frame.specs.declared.body.TheConstants.{MOST_BODY_BYTES}
+use Rattle.frame.specs.declared.framer.TheConstants.{MOST_LINE_BYTES}
 use Rattle.frame.specs.declared.item.Damage.{Damage}
 use Rattle.frame.specs.declared.item.Damage.TheVariants.{Shape, Cut}
 use Rattle.frame.specs.declared.item.Item.{Item}
@@ -17,12 +17,31 @@ damage_number Cut = 4
 abbrev pub checksum : List ℕ → ℕ
 checksum bytes = fold bit_xor 0 bytes
 
+-- the first and the last hexadecimal digits of each kind: `0` to `9`, `A` to `F` and `a` to `f`
+abbrev pub zero_digit : ℕ
+zero_digit = 48
+
+abbrev pub nine_digit : ℕ
+nine_digit = 57
+
+abbrev pub upper_a : ℕ
+upper_a = 65
+
+abbrev pub upper_f : ℕ
+upper_f = 70
+
+abbrev pub lower_a : ℕ
+lower_a = 97
+
+abbrev pub lower_f : ℕ
+lower_f = 102
+
 -- the value of a hexadecimal digit of either case
 abbrev pub hexadecimal_value : ℕ → Option ℕ
 hexadecimal_value digit =
-    if nat_le 48 digit && nat_le digit 57 then Some (digit - 48)
-    else (if nat_le 65 digit && nat_le digit 70 then Some (digit - 55)
-    else (if nat_le 97 digit && nat_le digit 102 then Some (digit - 87) else None))
+    if nat_le zero_digit digit && nat_le digit nine_digit then Some (digit - zero_digit)
+    else (if nat_le upper_a digit && nat_le digit upper_f then Some (digit - upper_a + 10)
+    else (if nat_le lower_a digit && nat_le digit lower_f then Some (digit - lower_a + 10) else None))
 
 -- the content is `$`, the body, `*`, and two hexadecimal digits that spell the body's checksum
 pub record IsFrame (content body : List ℕ) : Type 0 where
@@ -101,7 +120,7 @@ items_end bytes = items bytes ++ (if length (open_line bytes) == 0 then [] else 
 
 -- What is kept of a line: its bytes, or none where they are more than a frame and a carriage return have.
 abbrev pub kept : List ℕ → Option (List ℕ)
-kept line = if nat_le (length line) (MOST_BODY_BYTES + 5) then Some line else None
+kept line = if nat_le (length line) MOST_LINE_BYTES then Some line else None
 
 -- A framer that keeps this was fed these bytes, as far as what follows can tell.
 abbrev pub StandsFor : Option (List ℕ) → List ℕ → Type 0

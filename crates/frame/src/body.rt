@@ -6,8 +6,9 @@ ghost use Rattle.std.specs.Cmp.{partial_equiv_from_equiv};
 ghost use Rattle.frame.specs.Bodies.{is_body, is_body_byte};
 
 use arrayvec::ArrayString;
+use short_text::{Alphabet, short_text};
+use std::fmt;
 use std::marker::Model;
-use std::{fmt, str};
 
 /// The bytes of a body: 1 to this many.
 pub const MOST_BODY_BYTES: usize = 120;
@@ -29,18 +30,15 @@ impl Model for Body {
     ghost invariant = { λ body. IsTrue (is_body body.text.bytes) };
 }
 
-fn is_body_byte(byte: u8) -> bool
-    ensures { result ≡ is_body_byte byte }
-{
-    matches!(byte, 0x20..=0x7E) && byte != b'$' && byte != b'*'
-}
+/// The bytes that may stand in a body.
+struct BodyBytes;
 
-fn is_body(bytes: &[u8]) -> bool
-    ensures { result ≡ is_body bytes.now }
-{
-    !bytes.is_empty()
-        && bytes.len() <= MOST_BODY_BYTES
-        && bytes.iter().all(|byte| is_body_byte(*byte))
+impl Alphabet for BodyBytes {
+    ghost has = { is_body_byte };
+
+    fn has(byte: u8) -> bool {
+        matches!(byte, 0x20..=0x7E) && byte != b'$' && byte != b'*'
+    }
 }
 
 impl Body {
@@ -49,11 +47,7 @@ impl Body {
         ensures found { IsSome result ↔ IsTrue (is_body bytes.now) }
         ensures spelled { IfSome result (λ body. body ≡ bytes.now) }
     {
-        if !is_body(bytes) {
-            return None;
-        }
-        let text = str::from_utf8(bytes).ok()?;
-        let text = ArrayString::from(text).ok()?;
+        let text = short_text::<BodyBytes, MOST_BODY_BYTES>(bytes)?;
         Some(Body { text })
     }
 

@@ -1,15 +1,18 @@
 //! The framer: fed the bytes of a stream one by one, it gives the stream's items.
 ghost use Rattle.std.specs.Prelude.{◌≡◌, List, ℕ, [], ◌∷◌, ◌++◌, Some};
 ghost use Rattle.std.specs.Option.{option_to_list};
-ghost use Rattle.frame.specs.Frames.{StandsFor, items, items_end, item_of_line};
+ghost use Rattle.frame.specs.Frames.{StandsFor, items, items_end, item_of_line, line_feed};
 
 use crate::body::MOST_BODY_BYTES;
 use crate::item::{Damage, Item, item_of_content};
 use arrayvec::ArrayVec;
 use std::marker::Model;
 
+/// The bytes of the longest frame: `$`, a body, `*` and two digits.
+const MOST_FRAME_BYTES: usize = MOST_BODY_BYTES + 4;
+
 /// The bytes of the longest frame, with its carriage return and without its line feed.
-const MOST_LINE_BYTES: usize = MOST_BODY_BYTES + 5;
+const MOST_LINE_BYTES: usize = MOST_FRAME_BYTES + 1;
 
 /// Takes the bytes of a stream one by one, and gives the items of its lines.
 ///
@@ -73,7 +76,8 @@ impl Framer {
 
     /// The item of the line that a line feed ends. The next line has no byte yet.
     fn end_line(&mut self) -> Option<Item>
-        ensures item { (fed : List ℕ) → StandsFor self.old fed → items (fed ++ 10 ∷ []) ≡ items fed ++ option_to_list result }
+        ensures item { (fed : List ℕ) → StandsFor self.old fed → items (fed ++ line_feed ∷ [])
+            ≡ items fed ++ option_to_list result }
         ensures new { self.new ≡ Some [] }
     {
         let item = if self.overlong {

@@ -3,9 +3,9 @@ use Rattle.std.proofs.Common.{◌∙◌, ap, sym, ℕ, List, [], ◌∷◌, ◌+
 use Rattle.std.proofs.lemmas.List.Sums.{fold-append}
 use Rattle.pid.specs.declared.axis.Sample.{Sample}
 use Rattle.pid.specs.declared.position.FixErrors.{FixErrors}
-use Rattle.pid.specs.Control.{State, IsAfter, next, opening}
+use Rattle.pid.specs.Control.{ControlState, IsAfter, after_fix, fresh}
 
-pub IsAfter-next : (state : State) (moment : ℕ) (errors : FixErrors) (fixes : List Sample) → IsAfter state fixes → IsAfter (next state moment errors) (fixes ++ record { moment = moment; errors = errors } ∷ [])
-IsAfter-next state moment errors fixes after =
-    ap (λ (s : State). next s moment errors) after
-    ∙ sym (fold-append (λ (s : State) (fix : Sample). next s fix.moment fix.errors) (opening state.gains) fixes (record { moment = moment; errors = errors } ∷ []))
+pub IsAfter-after_fix : (state : ControlState) (moment : ℕ) (errors : FixErrors) (fixes : List Sample) → IsAfter state fixes → IsAfter (after_fix state moment errors) (fixes ++ record { moment = moment; errors = errors } ∷ [])
+IsAfter-after_fix state moment errors fixes after =
+    ap (λ (s : ControlState). after_fix s moment errors) after
+    ∙ sym (fold-append (λ (s : ControlState) (fix : Sample). after_fix s fix.moment fix.errors) (fresh state.gains) fixes (record { moment = moment; errors = errors } ∷ []))

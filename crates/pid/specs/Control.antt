@@ -13,7 +13,7 @@ use Rattle.pid.specs.declared.axis.Sample.{Sample}
 use Rattle.pid.specs.Fixes.{turned}
 
 -- what the fold keeps: the sum of each axis' errors and the previous fix. The gains stay
-pub record State : Type 0 where
+pub record ControlState : Type 0 where
   pub gains : List Gains
   pub sums : PerAxis
   pub previous : Option Sample
@@ -26,11 +26,11 @@ abbrev pub zeros : PerAxis
 zeros = record { surge = pos 0; sway = pos 0; yaw = pos 0 }
 
 -- nothing is summed yet, and there is no previous fix
-abbrev pub opening : List Gains → State
-opening gains = record { gains = gains; sums = zeros; previous = None }
+abbrev pub fresh : List Gains → ControlState
+fresh gains = record { gains = gains; sums = zeros; previous = None }
 
 -- the moment is after the previous fix's, where there is one
-abbrev pub IsNext : State → ℕ → Type 0
+abbrev pub IsNext : ControlState → ℕ → Type 0
 IsNext state moment = IfSome state.previous (λ previous. previous.moment < moment)
 
 -- an axis' sum, so many milliseconds on: it grows by their product with the error, up to its limit either way
@@ -75,30 +75,30 @@ rates_over before errors elapsed = record {
 }
 
 -- the sums at a fix, which stay where there is no previous one
-abbrev pub sums_at : State → ℕ → FixErrors → PerAxis
+abbrev pub sums_at : ControlState → ℕ → FixErrors → PerAxis
 sums_at state moment errors =
     option_map_or (λ previous. sums_over state.gains state.sums errors (moment - previous.moment)) state.previous state.sums
 
 -- the rates at a fix, which are 0 where there is no previous one
-abbrev pub rates_at : State → ℕ → FixErrors → PerAxis
+abbrev pub rates_at : ControlState → ℕ → FixErrors → PerAxis
 rates_at state moment errors =
     option_map_or (λ previous. rates_over previous.errors errors (moment - previous.moment)) state.previous zeros
 
 -- the state after a fix
-abbrev pub next : State → ℕ → FixErrors → State
-next state moment errors = record {
+abbrev pub after_fix : ControlState → ℕ → FixErrors → ControlState
+after_fix state moment errors = record {
   gains = state.gains;
   sums = sums_at state moment errors;
   previous = Some (record { moment = moment; errors = errors });
 }
 
 -- the state after these fixes since the last reset
-abbrev pub state_after : List Gains → List Sample → State
-state_after gains fixes = fold (λ state fix. next state fix.moment fix.errors) (opening gains) fixes
+abbrev pub after_fixes : List Gains → List Sample → ControlState
+after_fixes gains fixes = fold (λ state fix. after_fix state fix.moment fix.errors) (fresh gains) fixes
 
 -- the state is the one after these fixes, at its own gains
-abbrev pub IsAfter : State → List Sample → Type 0
-IsAfter state fixes = state ≡ state_after state.gains fixes
+abbrev pub IsAfter : ControlState → List Sample → Type 0
+IsAfter state fixes = state ≡ after_fixes state.gains fixes
 
 -- the demand of these errors, sums and rates
 abbrev pub demand_from : List Gains → FixErrors → PerAxis → PerAxis → Load → Wrench
@@ -109,6 +109,6 @@ demand_from gains errors sums rates wind = record {
 }
 
 -- the demand at a fix, which the sums at this fix have a part in
-abbrev pub demand_of : State → ℕ → FixErrors → Load → Wrench
+abbrev pub demand_of : ControlState → ℕ → FixErrors → Load → Wrench
 demand_of state moment errors wind =
     demand_from state.gains errors (sums_at state moment errors) (rates_at state moment errors) wind

@@ -1,7 +1,7 @@
 -- Fixes, and how far a fix is from the one that is wanted.
-use Rattle.std.specs.Prelude.{◌≡◌, ◌<◌, ℤ, pos, ◌+ℤ◌, ◌-ℤ◌, ◌*ℤ◌, ◌≤ℤ◌, neg_ℤ}
+use Rattle.std.specs.Prelude.{◌≡◌, ◌-◌, ◌<◌, ℤ, pos, ◌+ℤ◌, ◌-ℤ◌, ◌*ℤ◌, ◌≤ℤ◌, neg_ℤ}
 use Rattle.dp_num.specs.Quotients.{floor_quotient}
-use Rattle.plant_model.specs.declared.limits.TheConstants.{MOST_POSITION, WHOLE_TURN}
+use Rattle.plant_model.specs.declared.limits.TheConstants.{HALF_TURN, MOST_POSITION, WHOLE_TURN}
 use Rattle.plant_model.specs.Numbers.{IsWithin}
 use Rattle.wind_axes.specs.Wind.{ahead_of, starboard_of}
 use Rattle.pid.specs.declared.position.Fix.{Fix}
@@ -15,12 +15,12 @@ pub record IsInRange (fix : Fix) : Type 0 where
 
 -- the angle less as many whole turns as bring it from half a turn back to less than half a turn on
 abbrev pub turned : ℤ → ℤ
-turned angle = angle -ℤ floor_quotient (angle +ℤ pos 18000) (pos WHOLE_TURN) *ℤ pos WHOLE_TURN
+turned angle = angle -ℤ floor_quotient (angle +ℤ pos HALF_TURN) (pos WHOLE_TURN) *ℤ pos WHOLE_TURN
 
 -- that is what it is
 pub record IsTurned (angle result : ℤ) : Type 0 where
-  pub low : neg_ℤ (pos 18000) ≤ℤ result
-  pub high : result ≤ℤ pos 17999
+  pub low : neg_ℤ (pos HALF_TURN) ≤ℤ result
+  pub high : result ≤ℤ pos (HALF_TURN - 1)
   pub turns : (n : ℤ) × (angle ≡ result +ℤ n *ℤ pos WHOLE_TURN)
 
 -- how far the wanted fix is from the vessel's, in the vessel's axes

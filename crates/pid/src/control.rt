@@ -1,6 +1,6 @@
 //! The controller.
 ghost use Rattle.std.specs.Prelude.{◌≡◌, ◌^◌, ◌*◌, ◌<◌, pos, List, [], ◌∷◌, ◌++◌};
-ghost use Rattle.pid.specs.Control.{AreWithin, IsAfter, IsNext, opening, next, sums_over, rates_over, demand_from, demand_of};
+ghost use Rattle.pid.specs.Control.{AreWithin, IsAfter, IsNext, fresh, after_fix, sums_over, rates_over, demand_from, demand_of};
 
 use crate::axis::{PerAxis, Sample, asked, output, rate, sum_after};
 use crate::position::{FixErrors, turned};
@@ -19,9 +19,9 @@ pub struct Controller {
 
 impl Model for Controller {
     ghost use Rattle.std.specs.Prelude.{◌^◌, pos};
-    ghost use Rattle.pid.specs.Control.{State, AreWithin};
+    ghost use Rattle.pid.specs.Control.{ControlState, AreWithin};
 
-    ghost Value = { State };
+    ghost Value = { ControlState };
 
     ghost view = { λ c. record { gains = c.gains; sums = c.sums; previous = c.previous } };
 
@@ -33,7 +33,7 @@ impl Model for Controller {
 impl Controller {
     /// A controller with the gains of surge, sway and yaw, with nothing summed and no previous fix.
     pub fn new(gains: [Gains; 3]) -> Self
-        ensures { result ≡ opening gains }
+        ensures { result ≡ fresh gains }
     {
         Controller {
             gains,
@@ -44,7 +44,7 @@ impl Controller {
 
     /// Clears the sums and forgets the previous fix.
     pub fn reset(&mut self)
-        ensures { self.new ≡ opening self.old.gains }
+        ensures { self.new ≡ fresh self.old.gains }
     {
         self.sums = PerAxis::default();
         self.previous = None;
@@ -60,7 +60,7 @@ impl Controller {
     pub fn step(&mut self, moment: u32, errors: FixErrors, wind: Load) -> Wrench
         requires { IsNext self.old moment }
         ensures demand { result ≡ demand_of self.old moment errors wind }
-        ensures next { self.new ≡ next self.old moment errors }
+        ensures after { self.new ≡ after_fix self.old moment errors }
         ensures folds { (fixes : List Sample) → IsAfter self.old fixes
             → IsAfter self.new (fixes ++ record { moment = moment; errors = errors } ∷ []) }
     {

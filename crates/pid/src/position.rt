@@ -3,12 +3,8 @@ ghost use Rattle.std.specs.Prelude.{◌≡◌, ◌^◌, pos, ◌-ℤ◌};
 ghost use Rattle.plant_model.specs.Numbers.{IsWithin};
 ghost use Rattle.pid.specs.Fixes.{IsInRange, IsTurned, turned, errors_of};
 
-use plant_model::limits::WHOLE_TURN;
+use plant_model::limits::{HALF_TURN, WHOLE_TURN};
 use wind_axes::rotate;
-
-const TURN: i128 = WHOLE_TURN as i128;
-
-const HALF_TURN: i128 = TURN / 2;
 
 /// A position with a heading: `x` to the north and `y` to the east, in cm, within `MOST_POSITION`
 /// either way, and `heading` in centidegrees below a whole turn.
@@ -49,7 +45,8 @@ pub fn turned(angle: i128) -> i128
     ensures value { result ≡ turned angle }
     ensures law { IsTurned angle result }
 {
-    (angle + HALF_TURN).rem_euclid(TURN) - HALF_TURN
+    let half = i128::from(HALF_TURN);
+    (angle + half).rem_euclid(i128::from(WHOLE_TURN)) - half
 }
 
 #[cfg(test)]

@@ -1,5 +1,6 @@
 -- The fields of a text, one by one.
-use Rattle.std.proofs.Common.{◌≡◌, ℕ, ◌<◌, List, [], ◌∷◌, length, Bool, false, ◌==◌, Option, None, Some, Err, refl, arith}
+use Rattle.std.proofs.Common.{◌≡◌, ℕ, ◌<◌, List, [], ◌∷◌, length, Bool, false, ◌==◌, Option, None}
+use Rattle.std.proofs.Common.{Some, Err, refl, arith}
 use Rattle.std.proofs.lemmas.List.Elements.{All-from_get_or}
 use Rattle.std.proofs.lemmas.List.Splits.{slice_split_first, slice_split_none, length-slice_split}
 use Rattle.std.proofs.lemmas.List.Sums.{fails_before_first}
@@ -10,22 +11,31 @@ use Rattle.plant_core.specs.Telegrams.{comma, fields, name_and_word}
 use Rattle.plant_core.specs.declared.telegram.Reject.TheVariants.{Count}
 
 -- a text without the byte is one part
-slice_split-none : (p : ℕ → Bool) (text : List ℕ) → position_or_len p text ≡ length text → slice_split p text ≡ text ∷ []
+slice_split-none : (p : ℕ → Bool) (text : List ℕ) → position_or_len p text ≡ length text
+    → slice_split p text ≡ text ∷ []
 slice_split-none p text none =
-    slice_split_none p text (All-from_get_or (λ b. p b ≡ false) text 0 (λ i below. fails_before_first p text i 0 (omega arith)))
+    slice_split_none p text (All-from_get_or (λ b. p b ≡ false) text 0
+    (λ i below. fails_before_first p text i 0 (omega arith)))
 
 -- what `split_once` at the comma gives are the first field and the rest
 pub fields-split : (text : List ℕ) (parts : Option (Bor (List ℕ) × Bor (List ℕ)))
     → MatchOption parts (position_or_len (λ b. b == comma) text ≡ length text)
-    (λ x. (x.0.now ≡ before_first (λ b. b == comma) text) × (x.1.now ≡ after_first (λ b. b == comma) text) × (position_or_len (λ b. b == comma) text < length text))
+    (λ x. (x.0.now ≡ before_first (λ b. b == comma) text)
+    × (x.1.now ≡ after_first (λ b. b == comma) text)
+    × (position_or_len (λ b. b == comma) text < length text))
     → MatchOption parts (fields text ≡ text ∷ []) (λ x. fields text ≡ x.0.now ∷ fields x.1.now)
 fields-split text None none = slice_split-none (λ b. b == comma) text none
-fields-split text (Some x) found = rw (found.0, found.1) (slice_split_first (λ b. b == comma) text 0 found.2)
+fields-split text (Some x) found =
+    rw (found.0, found.1) (slice_split_first (λ b. b == comma) text 0 found.2)
 
-count-with_more : (on off name word : List ℕ) (parts : List (List ℕ)) → 0 < length parts → Err Count ≡ name_and_word on off (name ∷ word ∷ parts)
+count-with_more : (on off name word : List ℕ) (parts : List (List ℕ)) → 0 < length parts
+    → Err Count ≡ name_and_word on off (name ∷ word ∷ parts)
 count-with_more on off name word [] some = absurd (omega arith)
 count-with_more on off name word (first ∷ more) some = refl
 
 -- where a text follows the second field, the count is wrong
-pub count-with_text : (on off name word text : List ℕ) → Err Count ≡ name_and_word on off (name ∷ word ∷ fields text)
-count-with_text on off name word text = count-with_more on off name word (fields text) (omega (arith, length-slice_split (λ b. b == comma) text))
+pub count-with_text : (on off name word text : List ℕ)
+    → Err Count ≡ name_and_word on off (name ∷ word ∷ fields text)
+count-with_text on off name word text =
+    count-with_more on off name word (fields text)
+    (omega (arith, length-slice_split (λ b. b == comma) text))

@@ -1,7 +1,7 @@
 -- Laws of all telegrams and of all histories.
 use Rattle.std.specs.Prelude.{◌≡◌, ◌↔◌, ℕ, List, [], ◌∷◌, ◌++◌, Ok}
 use Rattle.plant_model.specs.declared.plant.Parts.{Parts}
-use Rattle.plant_core.specs.Machine.{IsAllowed, IsCall, IsLegal, next, replay}
+use Rattle.plant_core.specs.Machine.{IsAllowed, IsCall, IsLegal, next, state_after}
 use Rattle.plant_core.specs.Telegrams.{IsTelegram, telegram, telegram_text}
 use Rattle.plant_core.specs.declared.call.Entry.{Entry}
 use Rattle.plant_core.specs.declared.telegram.Telegram.{Telegram}
@@ -28,8 +28,11 @@ EmptyIsLegal = (plant : Parts) (limit : ℕ) → IsLegal plant limit []
 -- the history before the last entry is legal, the last call is a call, and its reply is allowed in the state before it
 abbrev pub LegalBySteps : Type 0
 LegalBySteps = (plant : Parts) (limit : ℕ) (history : List Entry) (entry : Entry)
-    → IsLegal plant limit (history ++ entry ∷ []) ↔ (IsLegal plant limit history × IsCall entry.call × IsAllowed plant limit (replay plant history) entry.call entry.reply)
+    → IsLegal plant limit (history ++ entry ∷ [])
+    ↔ (IsLegal plant limit history × IsCall entry.call
+    × IsAllowed plant limit (state_after plant history) entry.call entry.reply)
 
 -- the state after the last entry follows from the state before it
-abbrev pub ReplayBySteps : Type 0
-ReplayBySteps = (plant : Parts) (history : List Entry) (entry : Entry) → replay plant (history ++ entry ∷ []) ≡ next plant (replay plant history) entry
+abbrev pub StateBySteps : Type 0
+StateBySteps = (plant : Parts) (history : List Entry) (entry : Entry)
+    → state_after plant (history ++ entry ∷ []) ≡ next plant (state_after plant history) entry

@@ -1,6 +1,7 @@
 -- How many parts of a kind there may be.
 use Rattle.std.specs.Prelude.{ℕ}
-use Rattle.plant_model.specs.declared.limits.TheConstants.{MOST_GENERATORS, MOST_THRUSTERS, MOST_TIES}
+use Rattle.plant_model.specs.declared.limits.TheConstants.{MOST_GENERATORS, MOST_THRUSTERS}
+use Rattle.plant_model.specs.declared.limits.TheConstants.{MOST_TIES}
 use Rattle.plant_core.specs.declared.telegram.Telegram.{Telegram}
 use Rattle.plant_core.specs.declared.telegram.Telegram.TheVariants.{Thruster, Generator, Tie}
 

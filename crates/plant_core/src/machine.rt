@@ -1,7 +1,7 @@
 //! The machine with its history.
 ghost use Rattle.std.specs.Prelude.{◌≡◌, ◌+◌, ◌<◌, ◌≤◌, [], ◌∷◌, ◌++◌, false, IfOk, OnErr};
-ghost use Rattle.plant_core.specs.Laws.{EmptyIsLegal, LegalBySteps, ReplayBySteps};
-ghost use Rattle.plant_core.specs.Machine.{IsAllowed, IsLegal, HasRoom, replay};
+ghost use Rattle.plant_core.specs.Laws.{EmptyIsLegal, LegalBySteps, StateBySteps};
+ghost use Rattle.plant_core.specs.Machine.{IsAllowed, IsLegal, HasRoom, state_of};
 
 use crate::call::{Call, Entry, Reply};
 use crate::switch::answer;
@@ -34,9 +34,9 @@ pub struct Core {
 }
 
 impl Model for Core {
-    ghost use Rattle.plant_core.specs.Machine.{Machine};
+    ghost use Rattle.plant_core.specs.Machine.{CoreView};
 
-    ghost Value = { Machine };
+    ghost Value = { CoreView };
 
     ghost use Rattle.plant_core.specs.Kept.{IsKept};
 
@@ -71,9 +71,10 @@ impl Core {
 
     /// Answers a call, which becomes the last entry of the history. `NoMemory` changes nothing.
     pub fn apply(&mut self, caller: u32, call: Call) -> Result<Reply, NoMemory>
-        requires open { (replay self.old.plant self.old.history).is_closed ≡ false }
-        requires room { HasRoom self.old.limit (replay self.old.plant self.old.history) call }
-        ensures allowed { IfOk result (λ reply. IsAllowed self.old.plant self.old.limit (replay self.old.plant self.old.history) call reply) }
+        requires open { (state_of self.old).is_closed ≡ false }
+        requires room { HasRoom self.old.limit (state_of self.old) call }
+        ensures allowed { IfOk result
+            (λ reply. IsAllowed self.old.plant self.old.limit (state_of self.old) call reply) }
         ensures history { IfOk result (λ reply. self.new ≡ record self.old {
           history = self.old.history
               ++ record { caller = caller; call = call; reply = reply } ∷ [];
@@ -99,14 +100,14 @@ impl Core {
 
     /// The latest version.
     pub fn latest(&self) -> &Version
-        ensures { result.now ≡ (replay self.now.plant self.now.history).latest }
+        ensures { result.now ≡ (state_of self.now).latest }
     {
         &self.state.latest
     }
 
     /// How many telegrams and notes were answered.
     pub fn events(&self) -> u32
-        ensures { result ≡ (replay self.now.plant self.now.history).events }
+        ensures { result ≡ (state_of self.now).events }
     {
         self.state.events
     }
@@ -126,7 +127,7 @@ impl Core {
 pub fn legal_by_steps()
     ensures empty { EmptyIsLegal }
     ensures steps { LegalBySteps }
-    ensures states { ReplayBySteps }
+    ensures states { StateBySteps }
 {}
 
 #[cfg(test)]
@@ -155,10 +156,11 @@ mod tests {
     }
 
     fn ask(core: &mut Core, telegram: Telegram) -> Result<Reply, Fail>
-        requires open { (replay core.old.plant core.old.history).is_closed ≡ false }
-        requires room { (replay core.old.plant core.old.history).events < core.old.limit }
-        ensures open { IfOk result (λ reply. (replay core.new.plant core.new.history).is_closed ≡ false) }
-        ensures events { IfOk result (λ reply. (replay core.new.plant core.new.history).events ≡ (replay core.old.plant core.old.history).events + 1) }
+        requires open { (state_of core.old).is_closed ≡ false }
+        requires room { (state_of core.old).events < core.old.limit }
+        ensures open { IfOk result (λ reply. (state_of core.new).is_closed ≡ false) }
+        ensures events { IfOk result (λ reply.
+            (state_of core.new).events ≡ (state_of core.old).events + 1) }
         ensures limit { IfOk result (λ reply. core.new.limit ≡ core.old.limit) }
     {
         Ok(core.apply(2, Call::Telegram(telegram))?)

@@ -1,7 +1,8 @@
 //! The answers to calls, and the state after them.
 ghost use Rattle.std.specs.Prelude.{◌≡◌, ◌+◌, ◌<◌, ◌^◌, IfSome};
 ghost use Rattle.plant_core.specs.Telegrams.{IsTelegram};
-ghost use Rattle.plant_core.specs.Machine.{IsCall, IsReply, next_state, place_of, stands, switched, latest_after, telegram_reply};
+ghost use Rattle.plant_core.specs.Machine.{IsCall, IsReply, next_state, place_of, stands, switched};
+ghost use Rattle.plant_core.specs.Machine.{latest_after, telegram_reply};
 ghost use Rattle.plant_core.specs.Places.{most_parts};
 
 use crate::call::{Call, Reply};

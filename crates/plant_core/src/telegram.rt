@@ -2,7 +2,8 @@
 ghost use Rattle.std.specs.Prelude.{◌≡◌, ◌+◌, ◌-◌, ◌≤◌, ◌∷◌, ◌++◌, [], length, IsTrue, MatchOption};
 ghost use Rattle.frame.specs.Bodies.{is_body};
 ghost use Rattle.plant_core.specs.Laws.{IsReadOfItsText, IsReadOfNoOther, IsReadWithName};
-ghost use Rattle.plant_core.specs.Telegrams.{telegram, telegram_text, fields, fields_left, name_and_word, reject_number};
+ghost use Rattle.plant_core.specs.Telegrams.{telegram, telegram_text, fields, fields_left};
+ghost use Rattle.plant_core.specs.Telegrams.{name_and_word, reject_number};
 
 use arrayvec::ArrayString;
 use frame::{Body, MOST_BODY_BYTES};

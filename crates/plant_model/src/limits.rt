@@ -1,4 +1,5 @@
-//! The limits of plants, telegrams and sessions. No other crate writes these numbers.
+//! The limits of plants, telegrams and sessions. No other crate writes these numbers: code, definitions and proofs
+//! cite the names. The limit of a body is `frame`'s, `MOST_BODY_BYTES`, since `frame` stands below.
 
 /// The sections of a plant: 1 to this many.
 pub const MOST_SECTIONS: usize = 8;
@@ -70,6 +71,14 @@ pub const AXES: usize = 3;
 pub const MOST_POSITION: i32 = 10_000_000;
 /// The centidegrees of a whole turn; an angle is below this.
 pub const WHOLE_TURN: u32 = 36_000;
+/// The centidegrees of half a turn.
+pub const HALF_TURN: u32 = WHOLE_TURN / 2;
+/// The centidegrees of a quarter of a turn, a right angle.
+pub const QUARTER_TURN: u32 = WHOLE_TURN / 4;
+/// The last moment of time, in ms from any start.
+pub const LAST_MOMENT: u32 = u32::MAX;
+/// The last number of an alarm; the first is 1.
+pub const LAST_ALARM: u32 = u32::MAX;
 /// The greatest wind speed, in dm/s.
 pub const MOST_WIND_SPEED: u32 = 1_000;
 /// The rows of a wind table, one for each ten degrees.

@@ -7,8 +7,9 @@ ghost use Rattle.plant_model.specs.Names.{is_name, is_name_byte};
 
 use crate::limits::MOST_NAME_BYTES;
 use arrayvec::ArrayString;
+use short_text::{Alphabet, short_text};
+use std::fmt;
 use std::marker::Model;
-use std::{fmt, str};
 
 /// A name: 1 to 12 letters, digits, `_` and `-`. Contracts see its bytes.
 #[derive(Drop)]
@@ -27,18 +28,15 @@ impl Model for Name {
     ghost invariant = { λ name. IsTrue (is_name name.text.bytes) };
 }
 
-fn is_name_byte(byte: u8) -> bool
-    ensures { result ≡ is_name_byte byte }
-{
-    byte.is_ascii_alphanumeric() || byte == b'_' || byte == b'-'
-}
+/// The bytes that may stand in a name.
+struct NameBytes;
 
-fn is_name(bytes: &[u8]) -> bool
-    ensures { result ≡ is_name bytes.now }
-{
-    !bytes.is_empty()
-        && bytes.len() <= MOST_NAME_BYTES
-        && bytes.iter().all(|byte| is_name_byte(*byte))
+impl Alphabet for NameBytes {
+    ghost has = { is_name_byte };
+
+    fn has(byte: u8) -> bool {
+        byte.is_ascii_alphanumeric() || byte == b'_' || byte == b'-'
+    }
 }
 
 impl Name {
@@ -47,11 +45,7 @@ impl Name {
         ensures found { IsSome result ↔ IsTrue (is_name bytes.now) }
         ensures spelled { IfSome result (λ name. name ≡ bytes.now) }
     {
-        if !is_name(bytes) {
-            return None;
-        }
-        let text = str::from_utf8(bytes).ok()?;
-        let text = ArrayString::from(text).ok()?;
+        let text = short_text::<NameBytes, MOST_NAME_BYTES>(bytes)?;
         Some(Name { text })
     }
 

@@ -63,6 +63,14 @@ impl Plant {
         Plant { parts }
     }
 
+    /// What the plant is made of, which fits together.
+    pub fn parts(&self) -> &Parts
+        ensures parts { result.now ≡ self.now }
+        ensures fit { IsTrue (is_plant self.now) }
+    {
+        &self.parts
+    }
+
     pub fn name(&self) -> &Name
         ensures { result.now ≡ self.now.name }
     {

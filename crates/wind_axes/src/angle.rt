@@ -5,11 +5,7 @@ ghost use Rattle.wind_axes.specs.Wind.{half_turn_sine, sine_of, cosine_of, ahead
 ghost use Rattle.dp_num.specs.Quotients.{floor_quotient};
 
 use dp_num::floor_div;
-use plant_model::limits::{MOST_POSITION, WHOLE_TURN};
-
-const HALF_TURN: u32 = WHOLE_TURN / 2;
-
-const QUARTER_TURN: u32 = WHOLE_TURN / 4;
+use plant_model::limits::{HALF_TURN, MOST_POSITION, QUARTER_TURN, WHOLE_TURN};
 
 /// The sine of a right angle: sines and cosines are in ten-thousandths.
 pub const WHOLE_SINE: i32 = 10_000;
@@ -76,7 +72,7 @@ fn weighted(a: i64, p: i32, b: i64, q: i32) -> i64
     requires p { IsWithin WHOLE_SINE p }
     requires b { IsWithin MOST_OFFSET b }
     requires q { IsWithin WHOLE_SINE q }
-    ensures { result ≡ floor_quotient (a *ℤ p +ℤ b *ℤ q) (pos 10000) }
+    ensures { result ≡ floor_quotient (a *ℤ p +ℤ b *ℤ q) WHOLE_SINE }
 {
     let sum = a as i128 * p as i128 + b as i128 * q as i128;
     floor_div(sum, WHOLE_SINE as i128) as i64

@@ -3,7 +3,7 @@ use Rattle.std.proofs.Common.{◌<◌, ◌≤◌, List, ℕ, [], ◌∷◌, ◌+
 use Rattle.std.proofs.lemmas.List.{append-nil, length-append, length-take}
 use Rattle.frame.specs.Frames.{items}
 use Rattle.frame.specs.declared.item.Item.{Item}
-use Rattle.plant_core.specs.Machine.{Machine}
+use Rattle.plant_core.specs.Machine.{CoreView}
 use Rattle.plant_model.specs.declared.limits.TheConstants.{MOST_ENTRIES, MOST_STREAM_BYTES}
 use Rattle.dp_cli.specs.Sessions.{AnswersItems}
 use Rattle.dp_cli.proofs.Answered.{answered-more, few-items}
@@ -38,7 +38,7 @@ loop-byte-preserved c =
             let now = w.in_ok-take_item.ensures.answered (items all) before.1 in
             answered-more c.feed.new.self c.match-feed.core.history fed bytes i (w.in-Some.item ∷ []) c.loop-byte-test.true
             (c.feed.ensures.stands all before.0) (w.in-Some.ensures.items all before.0)
-            (subst (λ (m : Machine). AnswersItems m.history (items all ++ w.in-Some.item ∷ [])) (sym w.core-is) now);
+            (subst (λ (m : CoreView). AnswersItems m.history (items all ++ w.in-Some.item ∷ [])) (sym w.core-is) now);
       }
       | in_default w ↦ record {
         plant = search rules;
@@ -47,7 +47,7 @@ loop-byte-preserved c =
             let before = c.loop-byte.invariant.answered fed stands answers in
             let all = fed ++ take i bytes in
             let same : AnswersItems c.match-feed.core.history (items all) =
-            subst (λ (m : Machine). AnswersItems m.history (items all)) (sym w.core-is) before.1 in
+            subst (λ (m : CoreView). AnswersItems m.history (items all)) (sym w.core-is) before.1 in
             answered-more c.feed.new.self c.match-feed.core.history fed bytes i [] c.loop-byte-test.true
             (c.feed.ensures.stands all before.0) (w.in_default.ensures.items all before.0)
             (subst (λ (xs : List Item). AnswersItems c.match-feed.core.history xs) (sym (append-nil (items all))) same);

@@ -1,6 +1,6 @@
 -- What was answered so far counts as many events as items, which are fewer than the limit, and closes nothing.
 use Rattle.std.proofs.Common.{◌≡◌, ◌<◌, ap, arith}
-use Rattle.plant_core.specs.Machine.{replay}
+use Rattle.plant_core.specs.Machine.{state_after}
 use Rattle.dp_cli.specs.Sessions.{Asked, asked_for}
 use Rattle.dp_cli.proofs.Answered.{counts, room-item}
 use Rattle.dp_cli.proofs.session.take_item.Goals as goal
@@ -11,7 +11,7 @@ apply-requires-clause-open c =
 
 pub apply-requires-clause-room : goal.apply-requires-clause-room
 apply-requires-clause-room c =
-    let state = replay c.args.core.now.plant c.args.core.now.history in
+    let state = state_after c.args.core.now.plant c.args.core.now.history in
     let all = counts c.args.core.now.plant c.args.core.now.history c.requires.room.0 c.requires.room.1 in
     let few : state.events < c.args.core.now.limit = omega (arith, all.events, c.requires.room.2) in
     let call : c.asked_for-caller.result.1 ≡ (asked_for c.args.item).1 = ap (λ (a : Asked). a.1) c.asked_for-caller.ensures in

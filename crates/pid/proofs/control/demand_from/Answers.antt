@@ -1,8 +1,9 @@
-use Rattle.std.proofs.Common.{rules, ◌≡◌, ◌∙◌, ap, sym, ℕ, ℤ, pos, List, get_or, to_z, of_z, FitsSigned, w32, w64}
+use Rattle.std.proofs.Common.{rules, ◌≡◌, ◌∙◌, ap, sym, ℕ, ℤ, List, get_or, to_z, of_z, FitsSigned, w32, w64}
 use Rattle.std.proofs.lemmas.Int.{to_z-of_z}
 use Rattle.std.proofs.lemmas.Option.{unwrap_or-slice_get}
 use mir.Syntax.{w128}
 use Rattle.plant_model.specs.declared.controller.Gains.{Gains}
+use Rattle.plant_model.specs.declared.limits.TheConstants.{MOST_FORCE, MOST_MOMENT}
 use Rattle.pid.specs.Control.{gains_at, output_of, asked_of}
 use Rattle.pid.proofs.control.demand_from.Goals as goal
 
@@ -32,7 +33,7 @@ returns c =
     let surge = axis_output gains 0 errors.surge sums.surge rates.surge c.output.ensures.value (search rules) (search rules) (search rules) (search rules) in
     let sway = axis_output gains 1 errors.sway sums.sway rates.sway c.output-2.ensures.value (search rules) (search rules) (search rules) (search rules) in
     let yaw = axis_output gains 2 errors.yaw sums.yaw rates.yaw c.output-3.ensures.value (search rules) (search rules) (search rules) (search rules) in
-    let x = axis_asked _ _ c.args.wind.x (pos 24000) c.asked.ensures surge (search rules) (search rules) in
-    let y = axis_asked _ _ c.args.wind.y (pos 24000) c.asked-2.ensures sway (search rules) (search rules) in
-    let n = axis_asked _ _ c.args.wind.n (pos 76800000) c.asked-3.ensures yaw (search rules) (search rules) in
+    let x = axis_asked _ _ c.args.wind.x MOST_FORCE c.asked.ensures surge (search rules) (search rules) in
+    let y = axis_asked _ _ c.args.wind.y MOST_FORCE c.asked-2.ensures sway (search rules) (search rules) in
+    let n = axis_asked _ _ c.args.wind.n MOST_MOMENT c.asked-3.ensures yaw (search rules) (search rules) in
     rw (x, y, n)

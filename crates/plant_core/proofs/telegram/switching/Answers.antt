@@ -9,6 +9,8 @@ use Rattle.plant_core.proofs.telegram.switching.Goals as goal
 
 pub unwrap-requires : goal.unwrap-requires
 unwrap-requires c =
-    let short : length c.args.kind.now + length c.args.word.now + MOST_NAME_BYTES ≤ MOST_BODY_BYTES = omega arith in
-    let good : is_body (c.args.kind.now ++ c.args.name.now ++ c.args.word.now) ≡ true = is_body-with_name _ _ _ c.as_str.ensures.named c.requires.text short in
+    let short : length c.args.kind.now + length c.args.word.now
+    + MOST_NAME_BYTES ≤ MOST_BODY_BYTES = omega arith in
+    let good : is_body (c.args.kind.now ++ c.args.name.now ++ c.args.word.now) ≡ true =
+    is_body-with_name _ _ _ c.as_str.ensures.named c.requires.text short in
     grind (arith, common_steps)

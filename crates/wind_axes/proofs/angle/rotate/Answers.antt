@@ -2,6 +2,7 @@ use Rattle.std.proofs.Common.{rules, ◌≡◌, pos, ◌+ℤ◌, ◌-ℤ◌, ◌
 use Rattle.std.proofs.lemmas.Int.{ints, to_z-of_z}
 use Rattle.int_ring.proofs.Laws.{neg_mul}
 use Rattle.wind_axes.specs.Wind.{sine_of, cosine_of}
+use Rattle.wind_axes.specs.declared.angle.TheConstants.{WHOLE_SINE}
 use Rattle.dp_num.specs.Quotients.{floor_quotient}
 use Rattle.wind_axes.proofs.angle.rotate.Goals as goal
 
@@ -17,4 +18,4 @@ returns-clause-starboard c =
     let is_sine : to_z w32 (of_z w32 c.sine-sine.result) ≡ sine_of c.args.heading = omega (arith, ints, c.sine-sine.ensures.value) in
     let is_minus : to_z w64 (of_z w64 (pos 0 -ℤ to_z w64 (of_z w64 c.args.north))) ≡ neg_ℤ c.args.north = omega (arith, ints) in
     let same = turned_round c.args.east c.args.north _ _ is_east is_cosine is_minus is_sine in
-    to_z-of_z w64 _ (search rules) ∙ c.weighted-2.ensures ∙ ap (λ (z : ℤ). floor_quotient z (pos 10000)) same
+    to_z-of_z w64 _ (search rules) ∙ c.weighted-2.ensures ∙ ap (λ (z : ℤ). floor_quotient z WHOLE_SINE) same

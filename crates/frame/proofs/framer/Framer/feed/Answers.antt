@@ -1,7 +1,7 @@
 -- What is kept of the line goes on with the byte, or begins anew after a line feed.
 use Rattle.std.proofs.Common.{◌≡◌, ◌+◌, ◌<◌, List, ℕ, [], ◌∷◌, ◌++◌, Option, Some, None, length, cond, arith, append-nil, sym, ◌∙◌, ap}
 use Rattle.std.proofs.lemmas.Bool.Decides.{nat_tests}
-use Rattle.frame.specs.declared.body.TheConstants.{MOST_BODY_BYTES}
+use Rattle.frame.specs.declared.framer.TheConstants.{MOST_LINE_BYTES}
 use Rattle.frame.specs.Frames.{StandsFor, items, kept, open_line}
 use Rattle.frame.proofs.StreamItems.{StandsFor-feed, StandsFor-full, StandsFor-push, items-other}
 use Rattle.frame.proofs.framer.Framer.feed.Goals as goal
@@ -19,10 +19,10 @@ returns-clause-stands c fed stands =
     let before : StandsFor (cond c.self.inside.overlong None (Some c.self.inside.line.items)) fed = c.self.view_is ∙ stands in
     elim c.if-is_full.branch [
       | then-is_full w ↦
-          let full : length c.self.inside.line.items ≡ MOST_BODY_BYTES + 5 = grind (arith, nat_tests) in
+          let full : length c.self.inside.line.items ≡ MOST_LINE_BYTES = grind (arith, nat_tests) in
           w.self-is ∙ StandsFor-full c.self.inside.overlong c.self.inside.line.items fed c.args.byte c.if-byte-eq10.false full before
       | else-is_full w ↦
-          let room : length c.self.inside.line.items < MOST_BODY_BYTES + 5 = grind (arith, nat_tests) in
+          let room : length c.self.inside.line.items < MOST_LINE_BYTES = grind (arith, nat_tests) in
           let shown : List ℕ → Option (List ℕ) = λ bytes. cond c.self.inside.overlong None (Some bytes) in
           w.self-is ∙ ap shown w.push.ensures.items ∙ StandsFor-push c.self.inside.overlong c.self.inside.line.items fed c.args.byte c.if-byte-eq10.false room before
     ]
