@@ -1,19 +1,18 @@
 -- Greatest products and supports, one element more, and what they are at least.
-use Rattle.std.proofs.Common.{Bool, true, false, cond, ◌≡◌, ℕ, ◌+◌, ◌*◌, ◌^◌, ◌<◌, ◌≤◌, ℤ, pos, ◌+ℤ◌, ◌*ℤ◌, ◌≤ℤ◌, List, [], ◌∷◌, length, take, get_or, map, ap, ap₂, sym, ◌∙◌, refl, arith, SFits, w64}
-use Rattle.std.specs.Prelude.{fold, All}
+use Rattle.std.proofs.Common.{Bool, true, false, cond, ◌≡◌, ℕ, ◌+◌, ◌*◌, ◌^◌, ◌<◌, ◌≤◌, ℤ, pos, ◌+ℤ◌, ◌≤ℤ◌, List, length, take, get_or, ap, ap₂, sym, ◌∙◌, refl, arith, SFits, w64}
 use Rattle.std.specs.Int.{int_max}
 use Rattle.std.specs.Ordering.{ord_max, int_cmp, is_lt}
 use Rattle.std.specs.declared.cmp.Ordering.TheVariants.{Less, Equal, Greater}
 use Rattle.std.proofs.Common.{int_lt}
-use Rattle.std.proofs.lemmas.Int.{ints, int_max_is}
+use Rattle.std.proofs.lemmas.Int.{int_max_is}
 use Rattle.std.proofs.lemmas.List.Sums.{fold_more}
 use Rattle.std.proofs.lemmas.List.Folds.{fold-map}
 use Rattle.int_ring.proofs.Laws.{linear}
 use Rattle.int_ring.proofs.Machine.{machine}
 use Rattle.plant_model.specs.Numbers.{IsWithin}
 use Rattle.wrench_geometry.specs.declared.vector.Vec3.{Vec3}
-use Rattle.wrench_geometry.specs.Vectors.{dot_of, greatest_of, support_of}
-use Rattle.wrench_geometry.specs.Wrenches.{IsImage, AreImages}
+use Rattle.wrench_geometry.specs.Vectors.{dot_of, greatest_of, support_of, zero_vector}
+use Rattle.wrench_geometry.specs.Wrenches.{IsImage, image_at}
 use Rattle.wrench_geometry.proofs.Bounds.{within}
 
 pub greatest_more : (w : Vec3) (list : List Vec3) (i : ℕ) (d : Vec3) → i < length list → greatest_of w (take (i + 1) list) ≡ int_max (greatest_of w (take i list)) (dot_of w (get_or list i d))
@@ -59,3 +58,21 @@ next_support w lists i d t g m h k e low high is =
     let from = k.1 in
     let to = k.2 in
     (is ∙ ap₂ ◌+ℤ◌ k.0 e ∙ sym (support_more w lists i d h), omega (arith, linear), omega (arith, linear))
+
+max-right : (a b : ℤ) → a ≤ℤ b → int_max a b ≡ b
+max-right a b h = omega (arith, linear, int_max_is)
+
+max-left : (a b : ℤ) → b ≤ℤ a → int_max a b ≡ a
+max-left a b h = omega (arith, linear, int_max_is)
+
+-- the place of the greatest product so far, after one image more
+module _ (w : Vec3) (list : List Vec3) (i place : ℕ) (g p : ℤ) (h : i < length list) (is : p ≡ dot_of w (image_at list i)) (k : (g ≡ greatest_of w (take i list)) × (dot_of w (image_at list place) ≡ g) × (place ≤ length list)) where
+  more_is : greatest_of w (take (i + 1) list) ≡ int_max g p
+  more_is = greatest_more w list i zero_vector h ∙ ap₂ int_max (sym k.0) (sym is)
+
+  -- g' and the place are those after the test
+  pub next_place_taken : (g' : ℤ) (place' : ℕ) → g' ≡ p → place' ≡ i → g ≤ℤ p → (g' ≡ greatest_of w (take (i + 1) list)) × (dot_of w (image_at list place') ≡ g') × (place' ≤ length list)
+  next_place_taken g' place' e f l = (e ∙ sym (more_is ∙ max-right g p l), ap (λ (n : ℕ). dot_of w (image_at list n)) f ∙ sym is ∙ sym e, omega arith)
+
+  pub next_place_left : (g' : ℤ) (place' : ℕ) → g' ≡ g → place' ≡ place → p ≤ℤ g → (g' ≡ greatest_of w (take (i + 1) list)) × (dot_of w (image_at list place') ≡ g') × (place' ≤ length list)
+  next_place_left g' place' e f l = (e ∙ sym (more_is ∙ max-left g p l), ap (λ (n : ℕ). dot_of w (image_at list n)) f ∙ k.1 ∙ sym e, rw f k.2)

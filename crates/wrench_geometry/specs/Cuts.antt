@@ -1,5 +1,5 @@
 -- Cuts, and which are least.
-use Rattle.std.specs.Prelude.{◌≡◌, ℤ, pos, ◌*ℤ◌, ◌≤ℤ◌, ◌<ℤ◌, List}
+use Rattle.std.specs.Prelude.{◌≡◌, pos, ◌*ℤ◌, ◌≤ℤ◌, ◌<ℤ◌, List}
 use Rattle.wrench_geometry.specs.declared.cut.Cut.{Cut}
 use Rattle.wrench_geometry.specs.declared.cut.TheConstants.{CUT_PARTS_BELOW}
 use Rattle.wrench_geometry.specs.declared.vector.Vec3.{Vec3}

@@ -1,6 +1,6 @@
 //! Vectors in space.
 ghost use Rattle.std.specs.Prelude.{◌≡◌, ◌⊎◌};
-ghost use Rattle.wrench_geometry.specs.Vectors.{IsVectorWithin, cross_of, difference_of, dot_of};
+ghost use Rattle.wrench_geometry.specs.Vectors.{IsVectorWithin, cross_of, difference_of, dot_of, sum_of};
 
 /// How far from 0 the components of one vector of a dot product may be, and those of both vectors of a difference.
 pub const MOST_PLAIN: i64 = 1 << 61;
@@ -48,5 +48,18 @@ pub fn difference(a: Vec3, b: Vec3) -> Vec3
         x: a.x - b.x,
         y: a.y - b.y,
         z: a.z - b.z,
+    }
+}
+
+/// `a + b`. The components of both vectors are within `MOST_PLAIN`.
+pub fn sum(a: Vec3, b: Vec3) -> Vec3
+    requires a { IsVectorWithin MOST_PLAIN MOST_PLAIN a }
+    requires b { IsVectorWithin MOST_PLAIN MOST_PLAIN b }
+    ensures { result ≡ sum_of a b }
+{
+    Vec3 {
+        x: a.x + b.x,
+        y: a.y + b.y,
+        z: a.z + b.z,
     }
 }

@@ -1,5 +1,4 @@
-use Rattle.std.proofs.Common.{◌≡◌, ◌∙◌, ap, arith, get_or, rules, to_z, of_z}
-use Rattle.std.specs.Int.{w128}
+use Rattle.std.proofs.Common.{◌≡◌, ◌∙◌, ap, arith, get_or}
 use Rattle.std.proofs.lemmas.Int.{ints}
 use Rattle.wrench_geometry.specs.Vectors.{greatest_of}
 use Rattle.wrench_geometry.proofs.Supports.{next_support}
