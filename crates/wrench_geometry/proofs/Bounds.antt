@@ -1,11 +1,16 @@
 -- Vectors whose components are equal, and components that are within bounds.
 use Rattle.std.proofs.Common.{◌≡◌, ℤ, neg_ℤ, ◌≤ℤ◌, T, ◌&&◌, int_le, arith}
+use Rattle.std.proofs.lemmas.Int.{ints}
 use Rattle.int_ring.proofs.Laws.{linear}
-use Rattle.int_ring.proofs.Machine.{Strips, strip_known}
+use Rattle.int_ring.proofs.Machine.{Strips, machine, strip_known}
 use Rattle.int_ring.proofs.Intervals.{Known, under_both}
 use Rattle.plant_model.specs.Numbers.{IsWithin}
 use Rattle.wrench_geometry.specs.declared.vector.Vec3.{Vec3}
-use Rattle.wrench_geometry.specs.Vectors.{IsVectorWithin}
+use Rattle.wrench_geometry.specs.declared.vector.TheConstants.{MOST_FACTOR}
+use Rattle.wrench_geometry.specs.declared.vertices.TheConstants.{MOST_DETERMINANT}
+use Rattle.wrench_geometry.specs.Vectors.{IsVectorWithin, cross_of, det_of}
+use Rattle.wrench_geometry.specs.Wrenches.{IsSum}
+use Rattle.wrench_geometry.specs.Vertices.{IsShort}
 
 pub same_vector : {a b : Vec3} → a.x ≡ b.x → a.y ≡ b.y → a.z ≡ b.z → a ≡ b
 same_vector p q r = λ i. record { x = p i; y = q i; z = r i }
@@ -40,3 +45,13 @@ wider f' m' h k w =
 -- what `search machine` takes of a number within bounds, bound by a `let`
 abbrev pub bounded : {most z : ℤ} → IsWithin most z → Strips z
 bounded {most} {z} w = strip_known z (record { bound = neg_ℤ most; holds = w.low }) (record { bound = most; holds = w.high })
+
+-- the normal of two sums is one whose products are taken in 64 bits
+pub cross_is_short : (a b : Vec3) → IsSum a → IsSum b → IsShort (cross_of a b)
+cross_is_short a b h k = record { x = within (search machine depth 40) tt; y = within (search machine depth 40) tt; z = within (search machine depth 40) tt }
+
+pub det_within : (a b c : Vec3) → IsSum a → IsSum b → IsSum c → IsWithin MOST_DETERMINANT (det_of a b c)
+det_within a b c h k l = within (search machine depth 40) tt
+
+pub factor_is : {v : Vec3} → IsSum v → IsVectorWithin MOST_FACTOR MOST_FACTOR v
+factor_is w = wider MOST_FACTOR MOST_FACTOR (omega (arith, ints)) (omega (arith, ints)) w

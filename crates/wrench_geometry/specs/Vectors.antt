@@ -1,5 +1,5 @@
 -- Vectors in space, their products, and supports.
-use Rattle.std.specs.Prelude.{ℤ, pos, ◌+ℤ◌, ◌-ℤ◌, ◌*ℤ◌, List, map, fold}
+use Rattle.std.specs.Prelude.{ℤ, pos, neg_ℤ, ◌+ℤ◌, ◌-ℤ◌, ◌*ℤ◌, List, map, fold}
 use Rattle.std.specs.Int.{int_max}
 use Rattle.plant_model.specs.Numbers.{IsWithin}
 use Rattle.wrench_geometry.specs.declared.vector.Vec3.{Vec3}
@@ -23,6 +23,9 @@ sum_of a b = record { x = a.x +ℤ b.x; y = a.y +ℤ b.y; z = a.z +ℤ b.z }
 
 abbrev pub difference_of : Vec3 → Vec3 → Vec3
 difference_of a b = record { x = a.x -ℤ b.x; y = a.y -ℤ b.y; z = a.z -ℤ b.z }
+
+abbrev pub opposite_of : Vec3 → Vec3
+opposite_of a = record { x = neg_ℤ a.x; y = neg_ℤ a.y; z = neg_ℤ a.z }
 
 abbrev pub scaled_by : ℤ → Vec3 → Vec3
 scaled_by k a = record { x = k *ℤ a.x; y = k *ℤ a.y; z = k *ℤ a.z }

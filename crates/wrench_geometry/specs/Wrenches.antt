@@ -31,6 +31,10 @@ AreImages list = All IsImage list
 abbrev pub IsSum : Vec3 → Type 0
 IsSum v = IsVectorWithin MOST_FORCE MOST_MOMENT v
 
+-- the vector is a demand within its limits
+abbrev pub IsDemandVector : Vec3 → Type 0
+IsDemandVector d = IsVectorWithin MOST_FORCE MOST_MOMENT d
+
 -- the image at a place of the list, and the origin past the last one
 abbrev pub image_at : List Vec3 → ℕ → Vec3
 image_at list place = slice_index_or list place zero_vector

@@ -13,5 +13,7 @@ pub use cut::{CUT_PARTS_BELOW, Cut};
 pub use lever::{FARTHEST_LEVER, FARTHEST_THRUST, MOST_TURN, Point, image};
 pub use reach::{greatest, support};
 pub use sums::{Images, MOST_PIECE_POINTS, Sums};
-pub use vector::{MOST_FACTOR, MOST_PLAIN, Vec3, cross, difference, dot, sum};
-pub use vertices::{DIRECTION_FORCE, DIRECTION_MOMENT, Vertex, farthest, product};
+pub use vector::{MOST_FACTOR, MOST_PLAIN, Vec3, cross, difference, dot, opposite, sum};
+pub use vertices::{
+    MOST_DETERMINANT, SHORT_FORCE, SHORT_MOMENT, Vertex, determinant, farthest, product,
+};

@@ -1,6 +1,6 @@
 //! Vectors in space.
 ghost use Rattle.std.specs.Prelude.{◌≡◌, ◌⊎◌};
-ghost use Rattle.wrench_geometry.specs.Vectors.{IsVectorWithin, cross_of, difference_of, dot_of, sum_of};
+ghost use Rattle.wrench_geometry.specs.Vectors.{IsVectorWithin, cross_of, difference_of, dot_of, opposite_of, sum_of};
 
 /// How far from 0 the components of one vector of a dot product may be, and those of both vectors of a difference.
 pub const MOST_PLAIN: i64 = 1 << 61;
@@ -35,6 +35,18 @@ pub fn cross(a: Vec3, b: Vec3) -> Vec3
         x: a.y * b.z - a.z * b.y,
         y: a.z * b.x - a.x * b.z,
         z: a.x * b.y - a.y * b.x,
+    }
+}
+
+/// `-a`. The components are within `MOST_PLAIN`.
+pub fn opposite(a: Vec3) -> Vec3
+    requires { IsVectorWithin MOST_PLAIN MOST_PLAIN a }
+    ensures { result ≡ opposite_of a }
+{
+    Vec3 {
+        x: -a.x,
+        y: -a.y,
+        z: -a.z,
     }
 }
 

@@ -1,19 +1,20 @@
 //! The farthest sum of lists in a direction, with the image that it has of each list, in numbers of 64 bits.
 ghost use Rattle.std.specs.Prelude.{◌≡◌, ◌≤◌, length};
-ghost use Rattle.wrench_geometry.specs.Vectors.{dot_of, greatest_of, support_of};
+ghost use Rattle.plant_model.specs.Numbers.{IsWithin};
+ghost use Rattle.wrench_geometry.specs.Vectors.{det_of, dot_of, greatest_of, support_of};
 ghost use Rattle.wrench_geometry.specs.Wrenches.{AreImages, IsSum, image_at};
-ghost use Rattle.wrench_geometry.specs.Vertices.{IsDirection, IsVertex};
+ghost use Rattle.wrench_geometry.specs.Vertices.{IsShort, IsVertex};
 
 use crate::sums::Sums;
-use crate::vector::{Vec3, sum};
+use crate::vector::{Vec3, cross, sum};
 use arrayvec::ArrayVec;
-use plant_model::limits::MOST_THRUSTERS;
+use plant_model::limits::{MOST_FORCE, MOST_MOMENT, MOST_THRUSTERS};
 
 /// How far from 0 the first two components of a direction may be where its products are taken in 64 bits.
-pub const DIRECTION_FORCE: i64 = 1 << 44;
+pub const SHORT_FORCE: i64 = 1 << 44;
 
 /// How far from 0 the third component of such a direction may be.
-pub const DIRECTION_MOMENT: i64 = 1 << 33;
+pub const SHORT_MOMENT: i64 = 1 << 33;
 
 /// A sum of one image of each list, with the places of these images. A list's length is the place of the origin.
 #[derive(Debug, Drop)]
@@ -22,14 +23,28 @@ pub struct Vertex {
     pub places: ArrayVec<usize, MOST_THRUSTERS>,
 }
 
-/// The dot product of a direction with a sum of images. The direction is within `DIRECTION_FORCE` and
-/// `DIRECTION_MOMENT`, the sum within the limits of a demand.
+/// The dot product of a direction with a sum of images. The direction is within `SHORT_FORCE` and
+/// `SHORT_MOMENT`, the sum within the limits of a demand.
 pub fn product(w: Vec3, point: Vec3) -> i64
-    requires direction { IsDirection w }
+    requires short { IsShort w }
     requires point { IsSum point }
     ensures { result ≡ dot_of w point }
 {
     w.x * point.x + w.y * point.y + w.z * point.z
+}
+
+/// The greatest determinant of three sums of images, either way: of its six products each has two forces and a moment.
+pub const MOST_DETERMINANT: i64 = 6 * MOST_FORCE as i64 * MOST_FORCE as i64 * MOST_MOMENT as i64;
+
+/// The determinant of three sums of images.
+pub fn determinant(a: Vec3, b: Vec3, c: Vec3) -> i64
+    requires a { IsSum a }
+    requires b { IsSum b }
+    requires c { IsSum c }
+    ensures value { result ≡ det_of a b c }
+    ensures within { IsWithin MOST_DETERMINANT result }
+{
+    product(cross(b, c), a)
 }
 
 /// The image at a place, and the origin past the last one.
@@ -43,7 +58,7 @@ fn image_at(images: &[Vec3], place: usize) -> Vec3
 /// first such place.
 fn farthest_place(images: &[Vec3], w: Vec3) -> usize
     requires images { AreImages images.now }
-    requires direction { IsDirection w }
+    requires short { IsShort w }
     ensures place { result ≤ length images.now }
     ensures greatest { dot_of w (image_at images.now result) ≡ greatest_of w images.now }
 {
@@ -59,10 +74,10 @@ fn farthest_place(images: &[Vec3], w: Vec3) -> usize
     place
 }
 
-/// The sum that is farthest along `w`, which is within `DIRECTION_FORCE` and `DIRECTION_MOMENT`. Of a list of which
+/// The sum that is farthest along `w`, which is within `SHORT_FORCE` and `SHORT_MOMENT`. Of a list of which
 /// several images are farthest the origin is taken where it is one of them, else the first.
 pub fn farthest(sums: &Sums, w: Vec3) -> Vertex
-    requires { IsDirection w }
+    requires { IsShort w }
     ensures vertex { IsVertex sums.now result }
     ensures farthest { dot_of w result.point ≡ support_of sums.now w }
     ensures within { IsSum result.point }
