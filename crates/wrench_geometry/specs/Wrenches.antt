@@ -1,9 +1,9 @@
 -- Images of thrusts, and the sums of one image of each list.
 use Rattle.std.specs.Prelude.{ℕ, ℤ, ◌-ℤ◌, ◌*ℤ◌, List, ◌∷◌, All, slice_index_or}
 use Rattle.plant_model.specs.Numbers.{IsWithin}
-use Rattle.wrench_geometry.specs.declared.lever.Point.{Point}
-use Rattle.wrench_geometry.specs.declared.lever.TheConstants.{FARTHEST_THRUST, MOST_TURN}
-use Rattle.plant_model.specs.declared.limits.TheConstants.{MOST_FORCE, MOST_MOMENT}
+use Rattle.plant_model.specs.declared.thrust.Point.{Point}
+use Rattle.wrench_geometry.specs.declared.lever.TheConstants.{MOST_TURN}
+use Rattle.plant_model.specs.declared.limits.TheConstants.{MOST_FORCE, MOST_MOMENT, MOST_THRUST}
 use Rattle.wrench_geometry.specs.declared.vector.Vec3.{Vec3}
 use Rattle.wrench_geometry.specs.Vectors.{IsVectorWithin, sum_of, zero_vector}
 
@@ -22,7 +22,7 @@ image_of lever thrust = record {
 
 -- the vector is within the bounds of an image of a thrust
 abbrev pub IsImage : Vec3 → Type 0
-IsImage v = IsVectorWithin FARTHEST_THRUST MOST_TURN v
+IsImage v = IsVectorWithin MOST_THRUST MOST_TURN v
 
 abbrev pub AreImages : List Vec3 → Type 0
 AreImages list = All IsImage list

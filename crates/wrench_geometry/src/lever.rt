@@ -3,27 +3,17 @@ ghost use Rattle.std.specs.Prelude.{◌≡◌};
 ghost use Rattle.wrench_geometry.specs.Wrenches.{IsImage, IsPointWithin, image_of};
 
 use crate::vector::Vec3;
-
-/// The farthest lever from the origin along an axis, in dm.
-pub const FARTHEST_LEVER: i32 = 1_600;
-/// The greatest thrust along an axis, in kN.
-pub const FARTHEST_THRUST: i32 = 2_000;
-
-/// A point of a plane.
-#[derive(Clone, Copy, Debug, Default, PartialEq, Eq)]
-pub struct Point {
-    pub x: i32,
-    pub y: i32,
-}
+use plant_model::limits::{FARTHEST_LEVER, MOST_THRUST};
+use plant_model::thrust::Point;
 
 /// The greatest moment of one thrust, in kN·dm: of its two parts each has the farthest lever.
-pub const MOST_TURN: i64 = 2 * FARTHEST_LEVER as i64 * FARTHEST_THRUST as i64;
+pub const MOST_TURN: i64 = 2 * FARTHEST_LEVER as i64 * MOST_THRUST as i64;
 
 /// The force and the moment of a thrust at a lever: the thrust itself, and `lever × thrust` as a number. The lever is in
-/// dm and within `FARTHEST_LEVER` along both axes, the thrust in kN and within `FARTHEST_THRUST`.
+/// dm and within `FARTHEST_LEVER` along both axes, the thrust in kN and within `MOST_THRUST`.
 pub fn image(lever: Point, thrust: Point) -> Vec3
     requires lever { IsPointWithin FARTHEST_LEVER lever }
-    requires thrust { IsPointWithin FARTHEST_THRUST thrust }
+    requires thrust { IsPointWithin MOST_THRUST thrust }
     ensures value { result ≡ image_of lever thrust }
     ensures within { IsImage result }
 {

@@ -10,9 +10,9 @@ mod vector;
 mod vertices;
 
 pub use cut::{CUT_PARTS_BELOW, Cut};
-pub use lever::{FARTHEST_LEVER, FARTHEST_THRUST, MOST_TURN, Point, image};
+pub use lever::{MOST_TURN, image};
 pub use reach::{greatest, support};
-pub use sums::{Images, MOST_PIECE_POINTS, Sums};
+pub use sums::{Images, Sums};
 pub use vector::{MOST_FACTOR, MOST_PLAIN, Vec3, cross, difference, dot, opposite, sum};
 pub use vertices::{
     MOST_DETERMINANT, SHORT_FORCE, SHORT_MOMENT, Vertex, determinant, farthest, product,

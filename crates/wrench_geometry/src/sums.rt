@@ -4,11 +4,8 @@ ghost use Rattle.wrench_geometry.specs.Wrenches.{IsImage, AreImages};
 
 use crate::vector::Vec3;
 use arrayvec::ArrayVec;
-use plant_model::limits::MOST_THRUSTERS;
+use plant_model::limits::{MOST_PIECE_POINTS, MOST_THRUSTERS};
 use std::marker::Model;
-
-/// The points of a piece beside the origin: 0 to this many.
-pub const MOST_PIECE_POINTS: usize = 8;
 
 /// The images of a piece's points, in order: 0 to `MOST_PIECE_POINTS`. They stand for the hull of themselves and the
 /// origin. Contracts see the list.
