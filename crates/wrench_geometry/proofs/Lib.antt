@@ -1,0 +1,4 @@
+pub mod Bounds
+pub mod Wraps
+pub mod Supports
+pub mod VertexSums

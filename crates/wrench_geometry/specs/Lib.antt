@@ -1,0 +1,4 @@
+pub mod Vectors
+pub mod Wrenches
+pub mod Cuts
+pub mod Vertices
