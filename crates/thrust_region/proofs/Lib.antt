@@ -1,0 +1,10 @@
+pub mod Digits
+pub mod Counts
+pub mod Cuts
+pub mod Lists
+pub mod Rings
+pub mod Runs
+pub mod Sectors
+pub mod Signs
+pub mod WedgeCounts
+pub mod Wedges
