@@ -205,7 +205,7 @@ lies_of_zero points a q from_1 e f =
 -- ---- what a thrust that lies in the hull is near
 
 -- where a linear form is at most c on each point, the points' weighted sum has at most c times the weights
-weighted_at_most : (a b c : ℤ) (weights : List ℕ) (points : List Point) → length weights ≡ length points →
+pub weighted_at_most : (a b c : ℤ) (weights : List ℕ) (points : List Point) → length weights ≡ length points →
     ((p : Point) → Among points p → (a *ℤ p.x +ℤ b *ℤ p.y) ≤ℤ c) → (a *ℤ weighted_x weights points +ℤ b *ℤ weighted_y weights points) ≤ℤ (c *ℤ pos (sum weights))
 weighted_at_most a b c [] [] each most = omega (arith, linear, mul_zero a, mul_zero b, mul_zero c)
 weighted_at_most a b c [] (p ∷ points) each most = absurd (omega arith)
