@@ -1,13 +1,18 @@
 #!/usr/bin/env python3
-"""Times the proved program on switching telegrams: user time, peak memory and entries a second.
+"""Times the proved program on switching telegrams: user time, entries a second and peak memory.
 
 Usage: bench/switching.py. It runs ./dp once to build the program, then measures the program itself.
 """
 
+import fcntl
 import pathlib
+import re
 import resource
+import struct
 import subprocess
 import tempfile
+import termios
+import time
 
 ROOT = pathlib.Path(__file__).resolve().parent.parent
 PROGRAM = ROOT / "crates" / "dp_cli" / "out" / "dp_cli"
@@ -43,6 +48,29 @@ def user_seconds(path: str) -> float:
     return (resource.getrusage(resource.RUSAGE_CHILDREN).ru_utime - before) / RUNS
 
 
+def is_read(program: subprocess.Popen) -> bool:
+    """Whether the program has taken all of its input, and waits for more."""
+    (left,) = struct.unpack("i", fcntl.ioctl(program.stdin, termios.FIONREAD, bytes(4)))
+    state = pathlib.Path(f"/proc/{program.pid}/stat").read_text().rsplit(")", 1)[1].split()[0]
+    return left == 0 and state == "S"
+
+
+def peak_kibibytes(telegrams: bytes) -> int:
+    """The program's own peak memory, once it keeps the history of all the telegrams.
+
+    The memory of a process that has ended counts what it was started from, so it is read while the program lives.
+    """
+    with subprocess.Popen(
+        [PROGRAM, "replay", "demo", "-"], stdin=subprocess.PIPE, stdout=subprocess.DEVNULL
+    ) as program:
+        program.stdin.write(telegrams)
+        program.stdin.flush()
+        while not is_read(program):
+            time.sleep(0.01)
+        status = pathlib.Path(f"/proc/{program.pid}/status").read_text()
+        return int(re.search(r"VmHWM:\s*(\d+) kB", status)[1])
+
+
 def main() -> None:
     subprocess.run([ROOT / "dp", "replay", "demo", "-"], stdin=subprocess.DEVNULL, stdout=subprocess.DEVNULL, check=True)
     with tempfile.TemporaryDirectory() as folder:
@@ -54,8 +82,7 @@ def main() -> None:
                 f"{entries} entries, {path.stat().st_size} bytes: {1000 * seconds:.1f} ms user, "
                 f"{1e6 * seconds / entries:.2f} us an entry, {entries / seconds if seconds else 0:.0f} entries a second"
             )
-    peak = resource.getrusage(resource.RUSAGE_CHILDREN).ru_maxrss
-    print(f"peak memory: {peak / 1024:.1f} MiB")
+    print(f"peak memory: {peak_kibibytes(stream(longest())) / 1024:.1f} MiB")
 
 
 if __name__ == "__main__":

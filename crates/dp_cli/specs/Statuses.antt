@@ -1,12 +1,12 @@
 -- The numbers of the program's statuses, and what is told of them.
-use Rattle.std.specs.Prelude.{ℕ, List, [], ◌∷◌, ◌++◌, Option, Some, None, Result, Ok, Err, ◌==◌, if◌then◌else◌, codes}
+use Rattle.std.specs.Prelude.{ℕ, List, [], ◌++◌, ◌==◌, if◌then◌else◌, codes}
 use Rattle.dp_cli.specs.Texts.{line}
-use Rattle.dp_cli.specs.declared.dp_words.Form.{Form}
-use Rattle.dp_cli.specs.declared.dp_words.Form.TheVariants.{Replay}
 use Rattle.dp_cli.specs.declared.dp_words.PlantFault.{PlantFault}
 use Rattle.dp_cli.specs.declared.dp_words.PlantFault.TheVariants.{NotBuilt}
 use Rattle.dp_cli.specs.declared.dp_words.RunStatus.{RunStatus}
-use Rattle.dp_cli.specs.declared.dp_words.RunStatus.TheVariants.{Clear, Usage, Plant, ReadFault, WriteFault, NoMemory, StreamTooLong}
+use Rattle.dp_cli.specs.declared.dp_words.RunStatus.TheVariants.{Clear, Usage, Plant, ReadFault}
+use Rattle.dp_cli.specs.declared.dp_words.RunStatus.TheVariants.{WriteFault, NoMemory}
+use Rattle.dp_cli.specs.declared.dp_words.RunStatus.TheVariants.{StreamTooLong}
 
 -- the exit status
 abbrev pub status_code : RunStatus → ℕ
@@ -18,7 +18,8 @@ status_code WriteFault = 5
 status_code NoMemory = 7
 status_code StreamTooLong = 8
 
--- what is wrong with the words: 1 there is none, 2 the command is unknown, 3 the others aren't the command's
+-- what is wrong with the words: 1 there is none, 2 the command is unknown, 3 the others aren't the
+-- command's
 abbrev pub usage_text : ℕ → List ℕ
 usage_text kind = if kind == 1 then codes "1" else (if kind == 2 then codes "2" else codes "3")
 
@@ -34,8 +35,3 @@ status_text ReadFault = line (codes "dp: read fault")
 status_text WriteFault = line (codes "dp: write fault")
 status_text NoMemory = line (codes "dp: no memory")
 status_text StreamTooLong = line (codes "dp: stream too long")
-
--- the places of the words that name files: of the plant and of the telegrams
-abbrev pub files_of : Result Form ℕ → List (Option ℕ)
-files_of (Ok (Replay plant telegrams)) = Some plant ∷ Some telegrams ∷ None ∷ []
-files_of (Err kind) = None ∷ None ∷ None ∷ []

@@ -2,7 +2,7 @@
 use Rattle.std.specs.Prelude.{ℕ, ◌-◌, List, [], ◌∷◌, ◌++◌, ◌==◌, if◌then◌else◌, codes}
 use Rattle.std.specs.List.{flat_map}
 use Rattle.std.specs.Fmt.{decimal}
-use Rattle.frame.specs.Frames.{damage_number}
+use Rattle.frame.specs.Frames.{damage_number, line_feed}
 use Rattle.plant_model.specs.declared.parts.Group.{Group}
 use Rattle.plant_model.specs.declared.plant.Parts.{Parts}
 use Rattle.plant_core.specs.Telegrams.{telegram_text, reject_number}
@@ -12,18 +12,21 @@ use Rattle.plant_core.specs.declared.call.Call.TheVariants.{Telegram, Note, Clos
 use Rattle.plant_core.specs.declared.call.Note.{Note as NoteKind}
 use Rattle.plant_core.specs.declared.call.Note.TheVariants.{Damaged, Rejected}
 use Rattle.plant_core.specs.declared.call.Reply.{Reply}
-use Rattle.plant_core.specs.declared.call.Reply.TheVariants.{Version, Same, Taken, UnknownName, Noted}
+use Rattle.plant_core.specs.declared.call.Reply.TheVariants.{Version, Same, Taken, UnknownName}
+use Rattle.plant_core.specs.declared.call.Reply.TheVariants.{Noted}
 use Rattle.plant_core.specs.declared.call.Entry.{Entry}
 use Rattle.plant_core.specs.declared.machine.State.{State}
 
 -- a text with the line feed that ends its line
 abbrev pub line : List ℕ → List ℕ
-line text = text ++ 10 ∷ []
+line text = text ++ line_feed ∷ []
 
--- `S` for the session, `C` for the control loop, `O` for the operators, `W` with its number for a worker
+-- `S` for the session, `C` for the control loop, `O` for the operators, `W` with its number for a
+-- worker
 abbrev pub caller_text : ℕ → List ℕ
 caller_text caller =
-    if caller == 0 then codes "S" else (if caller == 1 then codes "C" else (if caller == 2 then codes "O"
+    if caller == 0 then codes "S" else (if caller == 1 then codes "C"
+    else (if caller == 2 then codes "O"
     else codes "W" ++ decimal (caller - 2)))
 
 abbrev pub note_text : NoteKind → List ℕ
@@ -44,7 +47,8 @@ reply_text Noted = codes "NOTED"
 
 -- the caller, the call and the reply
 abbrev pub entry_text : Entry → List ℕ
-entry_text entry = line (caller_text entry.caller ++ codes " " ++ call_text entry.call ++ codes " = " ++ reply_text entry.reply)
+entry_text entry = line (caller_text entry.caller ++ codes " " ++ call_text entry.call
+    ++ codes " = " ++ reply_text entry.reply)
 
 abbrev pub log_head : Parts → List ℕ
 log_head plant = line (codes "LOG,1," ++ plant.name)
@@ -54,7 +58,8 @@ abbrev pub log_text : Parts → List Entry → List ℕ
 log_text plant history = log_head plant ++ flat_map entry_text history
 
 abbrev pub report_head : State → List ℕ
-report_head state = line (codes "REPORT," ++ decimal state.latest.number ++ codes "," ++ decimal state.events)
+report_head state =
+    line (codes "REPORT," ++ decimal state.latest.number ++ codes "," ++ decimal state.events)
 
 -- nothing is known yet of what a group's loss leaves
 abbrev pub group_text : Group → List ℕ
@@ -62,4 +67,5 @@ group_text group = line (codes "GROUP," ++ group.name ++ codes ",PENDING")
 
 -- the latest version, the count of telegrams and notes, and a line for each group
 abbrev pub report_text : Parts → List Entry → List ℕ
-report_text plant history = report_head (state_after plant history) ++ flat_map group_text plant.groups.items ++ line (codes "END")
+report_text plant history = report_head (state_after plant history)
+    ++ flat_map group_text plant.groups.items ++ line (codes "END")

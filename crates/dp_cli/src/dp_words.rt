@@ -1,10 +1,12 @@
 //! The words of the command line, the statuses that the program ends with, and the plant that a word names.
-ghost use Rattle.std.specs.Prelude.{◌≡◌, ◌≢◌, ℕ, ◌+◌, ◌<◌, ◌≤◌, ◌⊎◌, [], ◌∷◌, ◌++◌, length, map, codes, IfOk, string_bytes};
+ghost use Rattle.std.specs.Prelude.{◌≡◌, ◌≢◌, ℕ, ◌+◌, ◌<◌, ◌≤◌, ◌⊎◌, [], ◌∷◌, ◌++◌, length, map};
+ghost use Rattle.std.specs.Prelude.{codes, IfOk, string_bytes};
 ghost use Rattle.std.specs.List.{enumerate_from, list_any, position, position_or_len};
-ghost use Rattle.dp_io.specs.Streams.{Grew, Rose};
 ghost use Rattle.plant_model.specs.Demo.{demo_parts};
-ghost use Rattle.dp_cli.specs.Words.{placed, is_dashes, is_option, replay_form, form_of, plant_place, IsWithin};
-ghost use Rattle.dp_cli.specs.Statuses.{files_of, status_code, status_text};
+ghost use Rattle.dp_cli.specs.Words.{placed, is_dashes, is_option, replay_form, form_of};
+ghost use Rattle.dp_cli.specs.Words.{plant_place, files_of, NamesBelow};
+ghost use Rattle.dp_cli.specs.Statuses.{status_code, status_text};
+ghost use Rattle.dp_cli.specs.Sessions.{shown, IsTold};
 
 use dp_io::{Failed, NoMemory, Sink, send_all};
 use plant_model::demo::demo;
@@ -21,7 +23,7 @@ impl Form {
     /// The place of the word that names the plant.
     pub fn plant(self) -> usize
         ensures place { result ≡ plant_place self }
-        ensures within { (count : ℕ) → IsWithin self count → result < count }
+        ensures within { (count : ℕ) → NamesBelow self count → result < count }
     {
         match self {
             Form::Replay { plant, .. } => plant,
@@ -141,7 +143,8 @@ fn replay_of(
     telegrams: usize,
     telegrams_word: &str,
 ) -> Result<Form, u32>
-    ensures form { result ≡ replay_form [] ((plant, plant_word.now) ∷ (telegrams, telegrams_word.now) ∷ []) }
+    ensures form { result ≡ replay_form []
+        ((plant, plant_word.now) ∷ (telegrams, telegrams_word.now) ∷ []) }
     ensures places { IfOk result (λ form. form ≡ Form.Replay plant telegrams) }
 {
     if plant_word == "-" && telegrams_word == "-" {
@@ -153,8 +156,12 @@ fn replay_of(
 
 /// The form of `replay` with the words before the first `--`, of which none is an option, and those after it.
 fn replay_form(before: &[String], after: &[String]) -> Result<Form, u32>
-    ensures form { let later = enumerate_from (length before.now + 2) (map string_bytes after.now) in result ≡ replay_form [] (placed (map string_bytes before.now) ++ later) }
-    ensures within { IfOk result (λ form. (count : ℕ) → length before.now < count → (0 < length after.now → length before.now + 1 + length after.now < count) → IsWithin form count) }
+    ensures form { let later = enumerate_from (length before.now + 2)
+        (map string_bytes after.now) in result ≡ replay_form []
+        (placed (map string_bytes before.now) ++ later) }
+    ensures within { IfOk result (λ form. (count : ℕ) → length before.now < count
+        → (0 < length after.now → length before.now + 1 + length after.now < count)
+        → NamesBelow form count) }
 {
     match (before, after) {
         ([plant, telegrams], []) => replay_of(1, plant.as_str(), 2, telegrams.as_str()),
@@ -172,7 +179,7 @@ fn replay_form(before: &[String], after: &[String]) -> Result<Form, u32>
 /// place. `replay` has the places PLANT and TELEGRAMS, of which at most one is the word `-`, and no option.
 pub fn form_of(words: &[String]) -> Result<Form, u32>
     ensures form { result ≡ form_of (map string_bytes words.now) }
-    ensures within { IfOk result (λ form. IsWithin form (length words.now)) }
+    ensures within { IfOk result (λ form. NamesBelow form (length words.now)) }
 {
     let Some((command, words)) = words.split_first() else {
         return Err(1);
@@ -215,7 +222,7 @@ pub fn plant_from(word: &str) -> Result<Plant, RunStatus>
 
 /// Hands the status's line to the error output. A fault there changes nothing.
 pub fn tell<E: Sink>(status: &RunStatus, err: &mut E)
-    ensures told { Grew (E.taken err.old) (E.taken err.new) (status_text status.now) ⊎ Rose (E.faults err.old) (E.faults err.new) }
+    ensures told { IsTold status.now (shown E.taken E.faults err.old err.new) }
     ensures counted { E.faults err.old ≤ E.faults err.new }
 {
     let _ = send_all(err, status.text().as_bytes());

@@ -1,6 +1,7 @@
 //! The texts of a history: its log, a line for each entry, and its report.
 ghost use Rattle.std.specs.Prelude.{◌≡◌, ◌++◌, IfOk, OnOk, string_bytes};
-ghost use Rattle.dp_cli.specs.Texts.{caller_text, call_text, reply_text, entry_text, log_head, group_text, report_text};
+ghost use Rattle.dp_cli.specs.Texts.{caller_text, call_text, reply_text, entry_text, log_head};
+ghost use Rattle.dp_cli.specs.Texts.{group_text, report_text};
 
 use dp_io::NoMemory;
 use plant_core::{Call, Core, Entry, Note, Reply, telegram};
@@ -84,7 +85,8 @@ fn push_group(text: &mut String, group: &Group) -> Result<(), AllocError>
 /// The report of a core's history: the number of the latest version with the count of telegrams and notes, a line
 /// for each group, and `END`.
 pub fn report_text(alloc: Global, core: &Core) -> Result<String, NoMemory>
-    ensures { IfOk result (λ text. string_bytes text ≡ report_text core.now.plant core.now.history) }
+    ensures { IfOk result
+        (λ text. string_bytes text ≡ report_text core.now.plant core.now.history) }
 {
     let number = core.latest().number;
     let events = core.events();

@@ -1,63 +1,68 @@
 //! `dp`: a dynamic positioning controller with consequence analysis.
 #![tactic(auto)]
 
-ghost use Rattle.std.specs.Prelude.{◌≡◌, map, string_bytes};
+ghost use Rattle.std.specs.Prelude.{◌≡◌, drop, map, string_bytes, IfOk};
+ghost use Rattle.std.specs.Process.{exit_status};
+ghost use Rattle.std.specs.Vec.Iter.{into_iter_items};
+ghost use Rattle.dp_cli.specs.Sessions.{shown, EndsCall, IsTold};
+ghost use Rattle.dp_cli.specs.Statuses.{status_code};
 ghost use Rattle.dp_cli.specs.Words.{word_at};
+ghost use Rattle.dp_cli.specs.declared.dp_words.RunStatus.{RunStatus as Status};
 
 pub mod dp_words;
 pub mod log_text;
 mod replay;
 mod session;
 
-use dp_io::{LazyFile, NoGate, StdErr, StdOut};
+use dp_io::{Gate, LazyFile, NoGate, Sink, Source, StdErr, StdOut};
 use dp_words::{RunStatus, file_words, tell};
 use replay::run;
+use std::alloc::{AllocError, Global};
 use std::env;
-use std::io::ErrorKind;
+use std::io::{self, ErrorKind};
 use std::process::ExitCode;
-
-/// The words after the program's name. Words that aren't text are a faulty command line.
-fn words(rt: &HostRuntime) -> Result<Vec<String>, RunStatus> {
-    let args = env::args(rt).map_err(|error| match error.kind() {
-        ErrorKind::OutOfMemory => RunStatus::NoMemory,
-        _ => RunStatus::Usage(3),
-    })?;
-    let mut words = Vec::new(rt.alloc());
-    for word in args.skip(1) {
-        if words.push(word).is_err() {
-            return Err(RunStatus::NoMemory);
-        }
-    }
-    Ok(words)
-}
+use std::sync::Wait;
+use std::thread::Threads;
 
 fn main(rt: HostRuntime) -> ExitCode {
     let mut out = StdOut::new(&rt);
     let mut err = StdErr::new(&rt);
-    let words = match words(&rt) {
-        Ok(words) => words,
-        Err(status) => {
-            tell(&status, &mut err);
-            return ExitCode::from(status.code());
-        }
+    let args = match env::args(&rt) {
+        Ok(args) => args,
+        Err(error) => return exit_at(no_arguments(&error), &mut err),
+    };
+    let Ok(words) = words_of(rt.alloc(), args) else {
+        return exit_at(RunStatus::NoMemory, &mut err);
     };
     let words = words.as_slice();
-    let [plant, second, third] = file_words(words);
-    let mut first = LazyFile::new(&rt, word(words, plant));
-    let mut second = LazyFile::new(&rt, word(words, second));
-    let mut third = LazyFile::new(&rt, word(words, third));
-    let status = run(
+    let [first, second, third] = file_words(words);
+    exit_of(
         &rt,
         rt.alloc(),
         words,
-        &mut first,
-        &mut second,
-        &mut third,
+        &mut LazyFile::new(&rt, word(words, first)),
+        &mut LazyFile::new(&rt, word(words, second)),
+        &mut LazyFile::new(&rt, word(words, third)),
         &mut out,
         &mut err,
         &NoGate,
-    );
-    ExitCode::from(status.code())
+    )
+}
+
+/// The status of a program whose arguments can't be had. Arguments that aren't text are a faulty command line.
+fn no_arguments(error: &io::Error) -> RunStatus {
+    match error.kind() {
+        ErrorKind::OutOfMemory => RunStatus::NoMemory,
+        _ => RunStatus::Usage(3),
+    }
+}
+
+/// The words: the arguments after the first, which is the program's name.
+fn words_of(alloc: Global, mut args: env::Args) -> Result<Vec<String>, AllocError>
+    ensures { IfOk result (λ words. words.items ≡ drop 1 (into_iter_items args)) }
+{
+    let _program = args.next();
+    args.collect(alloc)
 }
 
 /// The word at the place, or an empty one. The source of a place that isn't there is never read.
@@ -68,4 +73,44 @@ fn word(words: &[String], place: Option<usize>) -> &str
         Some(place) if place < words.len() => words[place].as_str(),
         _ => "",
     }
+}
+
+/// Tells the status, and gives its exit status.
+fn exit_at<E: Sink>(status: RunStatus, err: &mut E) -> ExitCode
+    ensures exit { exit_status result ≡ status_code status }
+    ensures told { IsTold status (shown E.taken E.faults err.old err.new) }
+{
+    tell(&status, err);
+    let code = status.code();
+    ExitCode::from(code)
+}
+
+/// Runs the program on these words, and gives the exit status of the status that it ends with.
+fn exit_of<
+    R: Threads + Wait + Sync,
+    A: Source,
+    B: Source,
+    C: Source + Send,
+    O: Sink,
+    E: Sink,
+    G: Gate + Sync,
+>(
+    rt: &R,
+    alloc: Global,
+    words: &[String],
+    first: &mut A,
+    second: &mut B,
+    third: &mut C,
+    out: &mut O,
+    err: &mut E,
+    gate: &G,
+) -> ExitCode
+    ensures { (status : Status) × (exit_status result ≡ status_code status)
+        × EndsCall {U = A × C} (map string_bytes words.now) status
+        (first.old, third.old) (first.new, third.new)
+        (shown B.left B.faults second.old second.new) (shown O.taken O.faults out.old out.new)
+        (shown E.taken E.faults err.old err.new) }
+{
+    let status = run(rt, alloc, words, first, second, third, out, err, gate);
+    ExitCode::from(status.code())
 }

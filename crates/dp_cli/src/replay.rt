@@ -1,8 +1,6 @@
 //! The top calls of the program.
-ghost use Rattle.std.specs.Prelude.{◌≡◌, ◌⊎◌, map, string_bytes};
-ghost use Rattle.dp_io.specs.Streams.{Grew, Rose};
-ghost use Rattle.dp_cli.specs.Sessions.{shown, HasHistory, HasCause, IsComplete};
-ghost use Rattle.dp_cli.specs.Statuses.{status_text};
+ghost use Rattle.std.specs.Prelude.{map, string_bytes};
+ghost use Rattle.dp_cli.specs.Sessions.{shown, EndsCall, EndsSession};
 
 use crate::dp_words::{RunStatus, form_of, plant_from, tell};
 use crate::session::session;
@@ -18,15 +16,9 @@ fn replay<B: Source, O: Sink>(
     telegrams: &mut B,
     out: &mut O,
 ) -> RunStatus
-    ensures history { HasHistory result
-        (shown (B.left telegrams.old) (B.left telegrams.new) (B.faults telegrams.old) (B.faults telegrams.new))
-        (shown (O.taken out.old) (O.taken out.new) (O.faults out.old) (O.faults out.new)) }
-    ensures causes { HasCause (map string_bytes words.now) result
-        (shown (B.left telegrams.old) (B.left telegrams.new) (B.faults telegrams.old) (B.faults telegrams.new))
-        (shown (O.taken out.old) (O.taken out.new) (O.faults out.old) (O.faults out.new)) }
-    ensures complete { IsComplete (map string_bytes words.now) result
-        (shown (B.left telegrams.old) (B.left telegrams.new) (B.faults telegrams.old) (B.faults telegrams.new))
-        (shown (O.taken out.old) (O.taken out.new) (O.faults out.old) (O.faults out.new)) }
+    ensures { EndsSession (map string_bytes words.now) result
+        (shown B.left B.faults telegrams.old telegrams.new)
+        (shown O.taken O.faults out.old out.new) }
 {
     let form = match form_of(words) {
         Ok(form) => form,
@@ -55,17 +47,9 @@ pub fn replay_call<A: Source, B: Source, O: Sink, E: Sink>(
     out: &mut O,
     err: &mut E,
 ) -> RunStatus
-    ensures unread { _first.new ≡ _first.old }
-    ensures history { HasHistory result
-        (shown (B.left second.old) (B.left second.new) (B.faults second.old) (B.faults second.new))
-        (shown (O.taken out.old) (O.taken out.new) (O.faults out.old) (O.faults out.new)) }
-    ensures causes { HasCause (map string_bytes words.now) result
-        (shown (B.left second.old) (B.left second.new) (B.faults second.old) (B.faults second.new))
-        (shown (O.taken out.old) (O.taken out.new) (O.faults out.old) (O.faults out.new)) }
-    ensures complete { IsComplete (map string_bytes words.now) result
-        (shown (B.left second.old) (B.left second.new) (B.faults second.old) (B.faults second.new))
-        (shown (O.taken out.old) (O.taken out.new) (O.faults out.old) (O.faults out.new)) }
-    ensures told { Grew (E.taken err.old) (E.taken err.new) (status_text result) ⊎ Rose (E.faults err.old) (E.faults err.new) }
+    ensures { EndsCall (map string_bytes words.now) result _first.old _first.new
+        (shown B.left B.faults second.old second.new) (shown O.taken O.faults out.old out.new)
+        (shown E.taken E.faults err.old err.new) }
 {
     let status = replay(alloc, words, second, out);
     tell(&status, err);
@@ -95,17 +79,10 @@ pub fn run<
     err: &mut E,
     _gate: &G,
 ) -> RunStatus
-    ensures unread { (first.new ≡ first.old) × (_third.new ≡ _third.old) }
-    ensures history { HasHistory result
-        (shown (B.left second.old) (B.left second.new) (B.faults second.old) (B.faults second.new))
-        (shown (O.taken out.old) (O.taken out.new) (O.faults out.old) (O.faults out.new)) }
-    ensures causes { HasCause (map string_bytes words.now) result
-        (shown (B.left second.old) (B.left second.new) (B.faults second.old) (B.faults second.new))
-        (shown (O.taken out.old) (O.taken out.new) (O.faults out.old) (O.faults out.new)) }
-    ensures complete { IsComplete (map string_bytes words.now) result
-        (shown (B.left second.old) (B.left second.new) (B.faults second.old) (B.faults second.new))
-        (shown (O.taken out.old) (O.taken out.new) (O.faults out.old) (O.faults out.new)) }
-    ensures told { Grew (E.taken err.old) (E.taken err.new) (status_text result) ⊎ Rose (E.faults err.old) (E.faults err.new) }
+    ensures { EndsCall {U = A × C} (map string_bytes words.now) result
+        (first.old, _third.old) (first.new, _third.new)
+        (shown B.left B.faults second.old second.new) (shown O.taken O.faults out.old out.new)
+        (shown E.taken E.faults err.old err.new) }
 {
     replay_call(alloc, words, first, second, out, err)
 }

@@ -1,10 +1,13 @@
 //! A session over one stream: each item of the stream is a call of the machine, and the history is written at the
 //! end.
-ghost use Rattle.std.specs.Prelude.{◌≡◌, ◌<◌, ◌≤◌, ◌+◌, List, ℕ, [], ◌∷◌, ◌++◌, length, OnOk, OnErr, IfOk, IfErr};
-ghost use Rattle.dp_io.specs.Streams.{Gave, Grew, Rose};
+ghost use Rattle.std.specs.Prelude.{◌≡◌, ◌<◌, ◌≤◌, ◌+◌, List, ℕ, [], ◌∷◌, ◌++◌, length, OnOk};
+ghost use Rattle.std.specs.Prelude.{OnErr, IfOk, IfErr};
+ghost use Rattle.dp_io.specs.Streams.{Gave, Rose};
 ghost use Rattle.frame.specs.Frames.{StandsFor, items};
 ghost use Rattle.frame.specs.declared.item.Item.{Item as FrameItem};
-ghost use Rattle.dp_cli.specs.Sessions.{asked_for, AnswersItems, items_until, MayEnd, shown, status_of, written, GrewInPart, IsWriteError, WritesWhole, WritesPart};
+ghost use Rattle.dp_cli.specs.Sessions.{asked_for, AnswersItems, items_until, MayEnd, shown};
+ghost use Rattle.dp_cli.specs.Sessions.{status_of, written, Took, TookPart, EndsText, EndsWriting};
+ghost use Rattle.dp_cli.specs.Sessions.{WritesWhole, WritesPart};
 ghost use Rattle.dp_cli.specs.Texts.{log_text, report_text};
 
 use crate::dp_words::RunStatus;
@@ -52,10 +55,12 @@ fn asked_for(item: Item) -> (u32, Call)
 
 /// Answers an item: its call is the next entry of the history.
 fn take_item(core: &mut Core, item: Item) -> Result<(), NoMemory>
-    requires room { (answered : List FrameItem) × AnswersItems core.old.history answered × (length answered < core.old.limit) }
+    requires room { (answered : List FrameItem) × AnswersItems core.old.history answered
+        × (length answered < core.old.limit) }
     ensures plant { core.new.plant ≡ core.old.plant }
     ensures limit { core.new.limit ≡ core.old.limit }
-    ensures answered { OnOk result ((answered : List FrameItem) → AnswersItems core.old.history answered
+    ensures answered { OnOk result ((answered : List FrameItem)
+        → AnswersItems core.old.history answered
         → AnswersItems core.new.history (answered ++ item ∷ [])) }
 {
     let (caller, call) = asked_for(item);
@@ -65,12 +70,15 @@ fn take_item(core: &mut Core, item: Item) -> Result<(), NoMemory>
 
 /// Answers the items that these bytes of the stream complete.
 fn take_bytes(core: &mut Core, framer: &mut Framer, bytes: &[u8]) -> Result<(), NoMemory>
-    requires room { (fed : List ℕ) × StandsFor framer.old fed × AnswersItems core.old.history (items fed)
+    requires room { (fed : List ℕ) × StandsFor framer.old fed
+        × AnswersItems core.old.history (items fed)
         × (length fed + length bytes.now ≤ MOST_STREAM_BYTES) × (core.old.limit ≡ MOST_ENTRIES) }
     ensures plant { core.new.plant ≡ core.old.plant }
     ensures limit { core.new.limit ≡ core.old.limit }
-    ensures answered { OnOk result ((fed : List ℕ) → StandsFor framer.old fed → AnswersItems core.old.history (items fed)
-        → StandsFor framer.new (fed ++ bytes.now) × AnswersItems core.new.history (items (fed ++ bytes.now))) }
+    ensures answered { OnOk result ((fed : List ℕ) → StandsFor framer.old fed
+        → AnswersItems core.old.history (items fed)
+        → StandsFor framer.new (fed ++ bytes.now)
+        × AnswersItems core.new.history (items (fed ++ bytes.now))) }
 {
     for byte in bytes {
         if let Some(item) = framer.feed(*byte) {
@@ -86,8 +94,9 @@ fn take_stream<S: Source>(core: &mut Core, source: &mut S) -> Result<Ending, NoM
     requires limit { core.old.limit ≡ MOST_ENTRIES }
     ensures plant { core.new.plant ≡ core.old.plant }
     ensures limit { core.new.limit ≡ core.old.limit }
-    ensures answered { IfOk result (λ ending. (bytes : List ℕ) × Gave (S.left source.old) (S.left source.new) bytes
-        × MayEnd (shown (S.left source.old) (S.left source.new) (S.faults source.old) (S.faults source.new)) bytes ending
+    ensures answered { IfOk result (λ ending. (bytes : List ℕ)
+        × Gave (S.left source.old) (S.left source.new) bytes
+        × MayEnd (shown S.left S.faults source.old source.new) bytes ending
         × AnswersItems core.new.history (items_until ending bytes)) }
     ensures counted { S.faults source.old ≤ S.faults source.new }
 {
@@ -113,8 +122,8 @@ fn take_stream<S: Source>(core: &mut Core, source: &mut S) -> Result<Ending, NoM
 
 /// Hands over each line of the text as a piece of its own.
 fn send_lines<S: Sink>(sink: &mut S, text: &[u8]) -> Result<(), Failed>
-    ensures whole { OnOk result (Grew (S.taken sink.old) (S.taken sink.new) text.now) }
-    ensures part { OnErr result (GrewInPart (S.taken sink.old) (S.taken sink.new) text.now) }
+    ensures whole { OnOk result (Took (shown S.taken S.faults sink.old sink.new) text.now) }
+    ensures part { OnErr result (TookPart (shown S.taken S.faults sink.old sink.new) text.now) }
     ensures failed { OnErr result (Rose (S.faults sink.old) (S.faults sink.new)) }
     ensures counted { S.faults sink.old ≤ S.faults sink.new }
 {
@@ -129,12 +138,8 @@ fn send_lines<S: Sink>(sink: &mut S, text: &[u8]) -> Result<(), Failed>
 
 /// Writes the log of the history, each line as a piece of its own. The error is `WriteFault` or `NoMemory`.
 fn write_log<S: Sink>(alloc: Global, core: &Core, out: &mut S) -> Result<(), RunStatus>
-    ensures whole { OnOk result (Grew (S.taken out.old) (S.taken out.new) (log_text core.now.plant core.now.history)) }
-    ensures part { result ≡ Err RunStatus.WriteFault
-        → GrewInPart (S.taken out.old) (S.taken out.new) (log_text core.now.plant core.now.history) }
-    ensures failed { result ≡ Err RunStatus.WriteFault → Rose (S.faults out.old) (S.faults out.new) }
-    ensures errors { IfErr result IsWriteError }
-    ensures counted { S.faults out.old ≤ S.faults out.new }
+    ensures { EndsText result (shown S.taken S.faults out.old out.new)
+        (log_text core.now.plant core.now.history) }
 {
     let head = log_text::log_head(alloc, core.plant())?;
     send_all(out, head.as_bytes())?;
@@ -147,12 +152,8 @@ fn write_log<S: Sink>(alloc: Global, core: &Core, out: &mut S) -> Result<(), Run
 
 /// Writes the report of the history, each line as a piece of its own. The error is `WriteFault` or `NoMemory`.
 fn write_report<S: Sink>(alloc: Global, core: &Core, out: &mut S) -> Result<(), RunStatus>
-    ensures whole { OnOk result (Grew (S.taken out.old) (S.taken out.new) (report_text core.now.plant core.now.history)) }
-    ensures part { result ≡ Err RunStatus.WriteFault
-        → GrewInPart (S.taken out.old) (S.taken out.new) (report_text core.now.plant core.now.history) }
-    ensures failed { result ≡ Err RunStatus.WriteFault → Rose (S.faults out.old) (S.faults out.new) }
-    ensures errors { IfErr result IsWriteError }
-    ensures counted { S.faults out.old ≤ S.faults out.new }
+    ensures { EndsText result (shown S.taken S.faults out.old out.new)
+        (report_text core.now.plant core.now.history) }
 {
     let report = log_text::report_text(alloc, core)?;
     send_lines(out, report.as_bytes())?;
@@ -161,12 +162,8 @@ fn write_report<S: Sink>(alloc: Global, core: &Core, out: &mut S) -> Result<(), 
 
 /// Writes the log of the history and then its report. The error is `WriteFault` or `NoMemory`.
 fn write_history<S: Sink>(alloc: Global, core: &Core, out: &mut S) -> Result<(), RunStatus>
-    ensures whole { OnOk result (Grew (S.taken out.old) (S.taken out.new) (written core.now.plant core.now.history)) }
-    ensures part { result ≡ Err RunStatus.WriteFault
-        → GrewInPart (S.taken out.old) (S.taken out.new) (written core.now.plant core.now.history) }
-    ensures failed { result ≡ Err RunStatus.WriteFault → Rose (S.faults out.old) (S.faults out.new) }
-    ensures errors { IfErr result IsWriteError }
-    ensures counted { S.faults out.old ≤ S.faults out.new }
+    ensures { EndsText result (shown S.taken S.faults out.old out.new)
+        (written core.now.plant core.now.history) }
 {
     write_log(alloc, core, out)?;
     write_report(alloc, core, out)
@@ -194,13 +191,10 @@ pub fn session<S: Source, O: Sink>(
     out: &mut O,
 ) -> Result<Ending, RunStatus>
     ensures ended { IfOk result (λ ending. WritesWhole plant ending
-        (shown (S.left source.old) (S.left source.new) (S.faults source.old) (S.faults source.new))
-        (shown (O.taken out.old) (O.taken out.new) (O.faults out.old) (O.faults out.new))) }
+        (shown S.left S.faults source.old source.new) (shown O.taken O.faults out.old out.new)) }
     ensures cut { result ≡ Err RunStatus.WriteFault → WritesPart plant
-        (shown (S.left source.old) (S.left source.new) (S.faults source.old) (S.faults source.new))
-        (shown (O.taken out.old) (O.taken out.new) (O.faults out.old) (O.faults out.new)) }
-    ensures failed { result ≡ Err RunStatus.WriteFault → Rose (O.faults out.old) (O.faults out.new) }
-    ensures errors { IfErr result IsWriteError }
+        (shown S.left S.faults source.old source.new) (shown O.taken O.faults out.old out.new) }
+    ensures writing { EndsWriting result (shown O.taken O.faults out.old out.new) }
 {
     let mut core = Core::start(alloc, plant, MOST_ENTRIES)?;
     let ending = take_stream(&mut core, source)?;

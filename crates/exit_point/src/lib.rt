@@ -1,13 +1,13 @@
-// A library with one function.
+//! Where the ray of a demand leaves the sums of lists, shown by a least cut and by weights of the lists' images. Nothing
+//! here overflows, and nothing takes memory.
 #![tactic(auto)]
 
-ghost use Rattle.std.specs.Prelude.{◌≡◌};
-ghost use Rattle.exit_point.specs.Echo.{echo_of};
+mod corners;
+pub mod portal;
+mod search;
+mod weights;
 
-// The `ensures` clause is the contract: what `echo` returns is `echo_of` of its argument, a definition
-// in `specs/Echo.antt`, which a caller's clause can cite too.
-pub fn echo(x: usize) -> usize
-    ensures { result ≡ echo_of x }
-{
-    x
-}
+pub use weights::{ExitWeights, MOST_WEIGHT, MOST_WEIGHTS};
+
+#[cfg(test)]
+mod tests;

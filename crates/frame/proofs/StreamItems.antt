@@ -1,5 +1,7 @@
 -- What one more byte of a stream does to its items and to what is kept of its open line.
-use Rattle.std.proofs.Common.{◌≡◌, ℕ, ◌+◌, ◌-◌, ◌<◌, ◌≤◌, List, [], ◌∷◌, ◌++◌, length, take, drop, Bool, true, false, cond, ◌==◌, Option, Some, None, refl, ap, sym, ◌∙◌, arith, length-append, length-take, length-drop}
+use Rattle.std.proofs.Common.{◌≡◌, ℕ, ◌+◌, ◌-◌, ◌<◌, ◌≤◌, List, [], ◌∷◌, ◌++◌, length, take, drop}
+use Rattle.std.proofs.Common.{Bool, true, false, cond, ◌==◌, Option, Some, None, refl, ap, sym, ◌∙◌}
+use Rattle.std.proofs.Common.{arith, length-append, length-take, length-drop}
 use Rattle.std.proofs.lemmas.Bool.Decides.{nat_tests}
 use Rattle.std.proofs.lemmas.List.Elements.{filter_map-append}
 use Rattle.std.specs.List.{filter_map, cons_option}
@@ -10,15 +12,19 @@ use Rattle.frame.specs.declared.item.Damage.TheVariants.{Shape}
 use Rattle.frame.specs.declared.item.Item.{Item}
 use Rattle.frame.specs.declared.item.Item.TheVariants.{Damaged}
 use Rattle.frame.specs.Bodies.{is_body}
-use Rattle.frame.specs.Frames.{StandsFor, all_but_last, between_feeds, frame_body, item_of_line, items, kept, last_of, line_feed, open_line, whole_lines}
-use Rattle.frame.proofs.Lines.{all_but_last-append, last_of-append, slice_split-append_yes, slice_split-append_no, slice_split-parts}
+use Rattle.frame.specs.Frames.{StandsFor, all_but_last, between_feeds, frame_body, item_of_line}
+use Rattle.frame.specs.Frames.{items, kept, last_of, line_feed, open_line, whole_lines}
+use Rattle.frame.proofs.Lines.{all_but_last-append, last_of-append, slice_split-append_yes}
+use Rattle.frame.proofs.Lines.{slice_split-append_no, slice_split-parts}
 
 -- ---- a line feed
 
 pub open_line-feed : (fed : List ℕ) → open_line (fed ++ line_feed ∷ []) ≡ []
-open_line-feed fed = ap last_of (slice_split-append_yes (λ b. b == line_feed) fed line_feed refl) ∙ last_of-append (between_feeds fed) []
+open_line-feed fed = ap last_of (slice_split-append_yes (λ b. b == line_feed) fed line_feed refl)
+    ∙ last_of-append (between_feeds fed) []
 
-pub whole_lines-feed : (fed : List ℕ) → whole_lines (fed ++ line_feed ∷ []) ≡ whole_lines fed ++ open_line fed ∷ []
+pub whole_lines-feed : (fed : List ℕ)
+    → whole_lines (fed ++ line_feed ∷ []) ≡ whole_lines fed ++ open_line fed ∷ []
 whole_lines-feed fed =
     ap all_but_last (slice_split-append_yes (λ b. b == line_feed) fed line_feed refl)
     ∙ all_but_last-append (between_feeds fed) []
@@ -28,7 +34,8 @@ cons_option-nil : (item : Option Item) → cons_option item [] ≡ option_to_lis
 cons_option-nil None = refl
 cons_option-nil (Some item) = refl
 
-pub items-feed : (fed : List ℕ) → items (fed ++ line_feed ∷ []) ≡ items fed ++ option_to_list (item_of_line (open_line fed))
+pub items-feed : (fed : List ℕ) → items (fed ++ line_feed ∷ []) ≡ items fed
+    ++ option_to_list (item_of_line (open_line fed))
 items-feed fed =
     ap (filter_map item_of_line) (whole_lines-feed fed)
     ∙ filter_map-append item_of_line (whole_lines fed) (open_line fed ∷ [])
@@ -39,22 +46,27 @@ items-feed fed =
 other_is_no_feed : (byte : ℕ) → ¬ (byte ≡ line_feed) → (byte == line_feed) ≡ false
 other_is_no_feed byte other = grind (arith, nat_tests)
 
-pub open_line-other : (fed : List ℕ) (byte : ℕ) → ¬ (byte ≡ line_feed) → open_line (fed ++ byte ∷ []) ≡ open_line fed ++ byte ∷ []
+pub open_line-other : (fed : List ℕ) (byte : ℕ) → ¬ (byte ≡ line_feed)
+    → open_line (fed ++ byte ∷ []) ≡ open_line fed ++ byte ∷ []
 open_line-other fed byte other =
     ap last_of (slice_split-append_no (λ b. b == line_feed) fed byte (other_is_no_feed byte other))
     ∙ last_of-append (all_but_last (between_feeds fed)) (open_line fed ++ byte ∷ [])
 
-pub whole_lines-other : (fed : List ℕ) (byte : ℕ) → ¬ (byte ≡ line_feed) → whole_lines (fed ++ byte ∷ []) ≡ whole_lines fed
+pub whole_lines-other : (fed : List ℕ) (byte : ℕ) → ¬ (byte ≡ line_feed)
+    → whole_lines (fed ++ byte ∷ []) ≡ whole_lines fed
 whole_lines-other fed byte other =
-    ap all_but_last (slice_split-append_no (λ b. b == line_feed) fed byte (other_is_no_feed byte other))
+    ap all_but_last (slice_split-append_no (λ b. b == line_feed) fed byte
+    (other_is_no_feed byte other))
     ∙ all_but_last-append (all_but_last (between_feeds fed)) (open_line fed ++ byte ∷ [])
 
-pub items-other : (fed : List ℕ) (byte : ℕ) → ¬ (byte ≡ line_feed) → items (fed ++ byte ∷ []) ≡ items fed
+pub items-other : (fed : List ℕ) (byte : ℕ) → ¬ (byte ≡ line_feed)
+    → items (fed ++ byte ∷ []) ≡ items fed
 items-other fed byte other = ap (filter_map item_of_line) (whole_lines-other fed byte other)
 
 -- ---- a line that is too long
 
-length-strip_carriage_return : (line : List ℕ) → length line ≤ length (strip_carriage_return line) + 1
+length-strip_carriage_return : (line : List ℕ)
+    → length line ≤ length (strip_carriage_return line) + 1
 length-strip_carriage_return line = grind (arith, nat_tests, length-take)
 
 -- the body of a long content would be too long
@@ -62,18 +74,23 @@ frame_body-long : (content : List ℕ) → MOST_FRAME_BYTES < length content →
 frame_body-long content long =
     let count : length (take (length content - 4) (drop 1 content)) ≡ length content - 4 =
     simp (length-take, length-drop) (omega arith) in
-    let no_body : is_body (take (length content - 4) (drop 1 content)) ≡ false = grind (arith, nat_tests) in
+    let no_body : is_body (take (length content - 4) (drop 1 content)) ≡ false =
+    grind (arith, nat_tests) in
     grind (arith, nat_tests)
 
-pub item_of_line-overlong : (line : List ℕ) → MOST_LINE_BYTES < length line → item_of_line line ≡ Some (Damaged Shape)
+pub item_of_line-overlong : (line : List ℕ) → MOST_LINE_BYTES < length line
+    → item_of_line line ≡ Some (Damaged Shape)
 item_of_line-overlong line long =
-    let content : MOST_FRAME_BYTES < length (strip_carriage_return line) = omega (arith, length-strip_carriage_return line) in
-    let no_frame : frame_body (strip_carriage_return line) ≡ None = frame_body-long (strip_carriage_return line) content in
+    let content : MOST_FRAME_BYTES < length (strip_carriage_return line) =
+    omega (arith, length-strip_carriage_return line) in
+    let no_frame : frame_body (strip_carriage_return line) ≡ None =
+    frame_body-long (strip_carriage_return line) content in
     grind (arith, nat_tests)
 
 -- ---- what is kept
 
-kept-is : (line bytes : List ℕ) → Some bytes ≡ kept line → (bytes ≡ line) × (length line ≤ MOST_LINE_BYTES)
+kept-is : (line bytes : List ℕ) → Some bytes ≡ kept line → (bytes ≡ line)
+    × (length line ≤ MOST_LINE_BYTES)
 kept-is line bytes is = grind (arith, nat_tests)
 
 kept-overlong : (line : List ℕ) → None ≡ kept line → MOST_LINE_BYTES < length line
@@ -89,37 +106,53 @@ pub StandsFor-feed : (fed : List ℕ) → StandsFor (Some []) (fed ++ line_feed 
 StandsFor-feed fed = ap kept (sym (open_line-feed fed))
 
 -- the item of a whole line comes from the bytes kept of it
-pub items-kept : (bytes fed : List ℕ) → StandsFor (Some bytes) fed → items (fed ++ line_feed ∷ []) ≡ items fed ++ option_to_list (item_of_line bytes)
+pub items-kept : (bytes fed : List ℕ) → StandsFor (Some bytes) fed
+    → items (fed ++ line_feed ∷ []) ≡ items fed ++ option_to_list (item_of_line bytes)
 items-kept bytes fed stands =
-    items-feed fed ∙ ap (λ (line : List ℕ). items fed ++ option_to_list (item_of_line line)) (sym (kept-is (open_line fed) bytes stands).0)
+    items-feed fed ∙ ap (λ (line : List ℕ). items fed ++ option_to_list (item_of_line line))
+    (sym (kept-is (open_line fed) bytes stands).0)
 
 -- and is damage where none are kept
-pub items-overlong : (fed : List ℕ) → StandsFor None fed → items (fed ++ line_feed ∷ []) ≡ items fed ++ Damaged Shape ∷ []
+pub items-overlong : (fed : List ℕ) → StandsFor None fed
+    → items (fed ++ line_feed ∷ []) ≡ items fed ++ Damaged Shape ∷ []
 items-overlong fed stands =
     items-feed fed
-    ∙ ap (λ (item : Option Item). items fed ++ option_to_list item) (item_of_line-overlong (open_line fed) (kept-overlong (open_line fed) stands))
+    ∙ ap (λ (item : Option Item). items fed ++ option_to_list item)
+    (item_of_line-overlong (open_line fed) (kept-overlong (open_line fed) stands))
 
-StandsFor-line : (kept_bytes : Option (List ℕ)) (fed : List ℕ) (byte : ℕ) → ¬ (byte ≡ line_feed) → kept_bytes ≡ kept (open_line fed ++ byte ∷ []) → StandsFor kept_bytes (fed ++ byte ∷ [])
+StandsFor-line : (kept_bytes : Option (List ℕ)) (fed : List ℕ) (byte : ℕ) → ¬ (byte ≡ line_feed)
+    → kept_bytes ≡ kept (open_line fed ++ byte ∷ []) → StandsFor kept_bytes (fed ++ byte ∷ [])
 StandsFor-line kept_bytes fed byte other is = is ∙ ap kept (sym (open_line-other fed byte other))
 
 -- nothing is kept of a line that grows past what is kept
-pub StandsFor-full : (overlong : Bool) (bytes fed : List ℕ) (byte : ℕ) → ¬ (byte ≡ line_feed) → length bytes ≡ MOST_LINE_BYTES
+pub StandsFor-full : (overlong : Bool) (bytes fed : List ℕ) (byte : ℕ) → ¬ (byte ≡ line_feed)
+    → length bytes ≡ MOST_LINE_BYTES
     → StandsFor (cond overlong None (Some bytes)) fed → StandsFor None (fed ++ byte ∷ [])
 StandsFor-full true bytes fed byte other full stands =
     let long : MOST_LINE_BYTES < length (open_line fed) = kept-overlong (open_line fed) stands in
-    StandsFor-line None fed byte other (kept-long (open_line fed ++ byte ∷ []) (omega (arith, length-append (open_line fed) (byte ∷ []))))
+    StandsFor-line None fed byte other
+    (kept-long (open_line fed ++ byte ∷ [])
+    (omega (arith, length-append (open_line fed) (byte ∷ []))))
 StandsFor-full false bytes fed byte other full stands =
-    let same : length bytes ≡ length (open_line fed) = ap length (kept-is (open_line fed) bytes stands).0 in
-    StandsFor-line None fed byte other (kept-long (open_line fed ++ byte ∷ []) (omega (arith, length-append (open_line fed) (byte ∷ []))))
+    let same : length bytes ≡ length (open_line fed) =
+    ap length (kept-is (open_line fed) bytes stands).0 in
+    StandsFor-line None fed byte other
+    (kept-long (open_line fed ++ byte ∷ [])
+    (omega (arith, length-append (open_line fed) (byte ∷ []))))
 
 -- a byte that finds room is kept
-pub StandsFor-push : (overlong : Bool) (bytes fed : List ℕ) (byte : ℕ) → ¬ (byte ≡ line_feed) → length bytes < MOST_LINE_BYTES
-    → StandsFor (cond overlong None (Some bytes)) fed → StandsFor (cond overlong None (Some (bytes ++ byte ∷ []))) (fed ++ byte ∷ [])
+pub StandsFor-push : (overlong : Bool) (bytes fed : List ℕ) (byte : ℕ) → ¬ (byte ≡ line_feed)
+    → length bytes < MOST_LINE_BYTES
+    → StandsFor (cond overlong None (Some bytes)) fed
+    → StandsFor (cond overlong None (Some (bytes ++ byte ∷ []))) (fed ++ byte ∷ [])
 StandsFor-push true bytes fed byte other room stands =
     let long : MOST_LINE_BYTES < length (open_line fed) = kept-overlong (open_line fed) stands in
-    StandsFor-line None fed byte other (kept-long (open_line fed ++ byte ∷ []) (omega (arith, length-append (open_line fed) (byte ∷ []))))
+    StandsFor-line None fed byte other
+    (kept-long (open_line fed ++ byte ∷ [])
+    (omega (arith, length-append (open_line fed) (byte ∷ []))))
 StandsFor-push false bytes fed byte other room stands =
     let same : bytes ≡ open_line fed = (kept-is (open_line fed) bytes stands).0 in
-    let short : length (bytes ++ byte ∷ []) ≤ MOST_LINE_BYTES = omega (arith, length-append bytes (byte ∷ [])) in
+    let short : length (bytes ++ byte ∷ []) ≤ MOST_LINE_BYTES =
+    omega (arith, length-append bytes (byte ∷ [])) in
     StandsFor-line (Some (bytes ++ byte ∷ [])) fed byte other
     (kept-short (bytes ++ byte ∷ []) short ∙ ap (λ (line : List ℕ). kept (line ++ byte ∷ [])) same)

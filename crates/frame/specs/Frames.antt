@@ -1,5 +1,7 @@
 -- The items of a stream of bytes: the lines between its line feeds, and the frames among them.
-use Rattle.std.specs.Prelude.{◌≡◌, ℕ, ◌+◌, ◌-◌, ◌*◌, List, [], ◌∷◌, ◌++◌, length, take, drop, Bool, false, ◌&&◌, ◌==◌, nat_le, slice_index, Option, Some, None, if◌then◌else◌, IsTrue, bit_xor}
+use Rattle.std.specs.Prelude.{◌≡◌, ℕ, ◌+◌, ◌-◌, ◌*◌, List, [], ◌∷◌, ◌++◌, length, take, drop, Bool}
+use Rattle.std.specs.Prelude.{false, ◌&&◌, ◌==◌, nat_le, slice_index, Option, Some, None}
+use Rattle.std.specs.Prelude.{if◌then◌else◌, IsTrue, bit_xor}
 use Rattle.std.specs.List.{slice_split, filter_map, fold}
 use Rattle.std.specs.Str.Lines.{strip_carriage_return}
 use Rattle.frame.specs.Bodies.{is_body, dollar, star}
@@ -41,7 +43,8 @@ abbrev pub hexadecimal_value : ℕ → Option ℕ
 hexadecimal_value digit =
     if nat_le zero_digit digit && nat_le digit nine_digit then Some (digit - zero_digit)
     else (if nat_le upper_a digit && nat_le digit upper_f then Some (digit - upper_a + 10)
-    else (if nat_le lower_a digit && nat_le digit lower_f then Some (digit - lower_a + 10) else None))
+    else (if nat_le lower_a digit && nat_le digit lower_f then Some (digit - lower_a + 10)
+    else None))
 
 -- the content is `$`, the body, `*`, and two hexadecimal digits that spell the body's checksum
 pub record IsFrame (content body : List ℕ) : Type 0 where
@@ -66,8 +69,10 @@ abbrev pub frame_body : List ℕ → Option (List ℕ)
 frame_body content =
     let count = length content in
     let body = take (count - 4) (drop 1 content) in
-    if nat_le 4 count && slice_index content 0 == dollar && slice_index content (count - 3) == star && is_body body
-    && spells (hexadecimal_value (slice_index content (count - 2))) (hexadecimal_value (slice_index content (count - 1))) (checksum body)
+    if nat_le 4 count && slice_index content 0 == dollar && slice_index content (count - 3) == star
+    && is_body body
+    && spells (hexadecimal_value (slice_index content (count - 2)))
+    (hexadecimal_value (slice_index content (count - 1))) (checksum body)
     then Some body else None
 
 abbrev pub item_or_damage : Option (List ℕ) → Item
@@ -78,8 +83,8 @@ item_or_damage None = Damaged Shape
 abbrev pub item_of_content : List ℕ → Item
 item_of_content content = item_or_damage (frame_body content)
 
--- the item of a line without its line feed: its content is the line without one carriage return at its end,
--- and an empty content is no item
+-- the item of a line without its line feed: its content is the line without one carriage return at
+-- its end, and an empty content is no item
 abbrev pub item_of_line : List ℕ → Option Item
 item_of_line line =
     let content = strip_carriage_return line in
@@ -118,7 +123,8 @@ items bytes = filter_map item_of_line (whole_lines bytes)
 abbrev pub items_end : List ℕ → List Item
 items_end bytes = items bytes ++ (if length (open_line bytes) == 0 then [] else Damaged Cut ∷ [])
 
--- What is kept of a line: its bytes, or none where they are more than a frame and a carriage return have.
+-- What is kept of a line: its bytes, or none where they are more than a frame and a carriage return
+-- have.
 abbrev pub kept : List ℕ → Option (List ℕ)
 kept line = if nat_le (length line) MOST_LINE_BYTES then Some line else None
 

@@ -60,8 +60,10 @@ impl Framer {
 
     /// Takes the next byte, and gives the item that it completes. None where it completes none.
     pub fn feed(&mut self, byte: u8) -> Option<Item>
-        ensures items { (fed : List ℕ) → StandsFor self.old fed → items (fed ++ byte ∷ []) ≡ items fed ++ option_to_list result }
-        ensures stands { (fed : List ℕ) → StandsFor self.old fed → StandsFor self.new (fed ++ byte ∷ []) }
+        ensures items { (fed : List ℕ) → StandsFor self.old fed
+            → items (fed ++ byte ∷ []) ≡ items fed ++ option_to_list result }
+        ensures stands { (fed : List ℕ) → StandsFor self.old fed
+            → StandsFor self.new (fed ++ byte ∷ []) }
     {
         if byte == b'\n' {
             return self.end_line();
@@ -91,7 +93,8 @@ impl Framer {
 
     /// Ends the stream: `Damaged(Cut)` exactly where bytes stand after the last line feed. The framer is then as new.
     pub fn finish(&mut self) -> Option<Item>
-        ensures items { (fed : List ℕ) → StandsFor self.old fed → items_end fed ≡ items fed ++ option_to_list result }
+        ensures items { (fed : List ℕ) → StandsFor self.old fed
+            → items_end fed ≡ items fed ++ option_to_list result }
         ensures new { StandsFor self.new [] }
     {
         let is_cut = self.overlong || !self.line.is_empty();

@@ -1,6 +1,7 @@
 //! What a line of a stream is: a body or damage.
 ghost use Rattle.std.specs.Prelude.{◌≡◌, ◌↔◌, ℕ, List, Option, Some};
-ghost use Rattle.frame.specs.Frames.{IsFrame, frame_body, checksum, hexadecimal_value, damage_number, item_of_content};
+ghost use Rattle.frame.specs.Frames.{IsFrame, frame_body, checksum, hexadecimal_value};
+ghost use Rattle.frame.specs.Frames.{damage_number, item_of_content};
 
 use crate::body::Body;
 

@@ -1,5 +1,7 @@
--- The controller as a fold over the fixes since it was last reset. The first axis is surge, then sway and yaw.
-use Rattle.std.specs.Prelude.{◌≡◌, ℕ, ◌-◌, ◌<◌, ℤ, pos, ◌+ℤ◌, ◌-ℤ◌, ◌*ℤ◌, neg_ℤ, List, fold, Option, None, Some, IfSome, unwrap_or, slice_get}
+-- The controller as a fold over the fixes since it was last reset. The first axis is surge, then
+-- sway and yaw.
+use Rattle.std.specs.Prelude.{◌≡◌, ℕ, ◌-◌, ◌<◌, ℤ, pos, ◌+ℤ◌, ◌-ℤ◌, ◌*ℤ◌, neg_ℤ, List, fold, Option}
+use Rattle.std.specs.Prelude.{None, Some, IfSome, unwrap_or, slice_get}
 use Rattle.std.specs.Option.{option_map_or}
 use Rattle.plant_model.specs.Numbers.{IsWithin}
 use Rattle.dp_num.specs.Quotients.{floor_quotient, clamped}
@@ -20,7 +22,8 @@ pub record ControlState : Type 0 where
 
 -- the gains of the axis of this number
 abbrev pub gains_at : List Gains → ℕ → Gains
-gains_at gains axis = unwrap_or (slice_get gains axis) (record { kp = 0; ki = 0; kd = 0; limit = 0 })
+gains_at gains axis =
+    unwrap_or (slice_get gains axis) (record { kp = 0; ki = 0; kd = 0; limit = 0 })
 
 abbrev pub zeros : PerAxis
 zeros = record { surge = pos 0; sway = pos 0; yaw = pos 0 }
@@ -33,7 +36,8 @@ fresh gains = record { gains = gains; sums = zeros; previous = None }
 abbrev pub IsNext : ControlState → ℕ → Type 0
 IsNext state moment = IfSome state.previous (λ previous. previous.moment < moment)
 
--- an axis' sum, so many milliseconds on: it grows by their product with the error, up to its limit either way
+-- an axis' sum, so many milliseconds on: it grows by their product with the error, up to its limit
+-- either way
 abbrev pub sum_after : Gains → ℤ → ℤ → ℕ → ℤ
 sum_after gains sum error elapsed =
     clamped (sum +ℤ error *ℤ pos elapsed) (neg_ℤ (pos gains.limit)) (pos gains.limit)
@@ -45,7 +49,8 @@ rate_of change elapsed = floor_quotient (change *ℤ pos 1000) (pos elapsed)
 -- an axis' output: its error, its sum and its rate, each by its gain
 abbrev pub output_of : Gains → ℤ → ℤ → ℤ → ℤ
 output_of gains error sum rate =
-    floor_quotient (pos gains.kp *ℤ error) (pos 1000) +ℤ floor_quotient (pos gains.ki *ℤ sum) (pos 1000000)
+    floor_quotient (pos gains.kp *ℤ error) (pos 1000)
+    +ℤ floor_quotient (pos gains.ki *ℤ sum) (pos 1000000)
     +ℤ floor_quotient (pos gains.kd *ℤ rate) (pos 1000)
 
 -- what is asked of the thrusters along an axis, of which the wind gives a part
@@ -66,7 +71,8 @@ sums_over gains sums errors elapsed = record {
   yaw = sum_after (gains_at gains 2) sums.yaw errors.yaw elapsed;
 }
 
--- the rates from the errors before to those so many milliseconds on, in yaw by the shorter way round
+-- the rates from the errors before to those so many milliseconds on, in yaw by the shorter way
+-- round
 abbrev pub rates_over : FixErrors → FixErrors → ℕ → PerAxis
 rates_over before errors elapsed = record {
   surge = rate_of (errors.surge -ℤ before.surge) elapsed;
@@ -77,12 +83,14 @@ rates_over before errors elapsed = record {
 -- the sums at a fix, which stay where there is no previous one
 abbrev pub sums_at : ControlState → ℕ → FixErrors → PerAxis
 sums_at state moment errors =
-    option_map_or (λ previous. sums_over state.gains state.sums errors (moment - previous.moment)) state.previous state.sums
+    option_map_or (λ previous. sums_over state.gains state.sums errors (moment - previous.moment))
+    state.previous state.sums
 
 -- the rates at a fix, which are 0 where there is no previous one
 abbrev pub rates_at : ControlState → ℕ → FixErrors → PerAxis
 rates_at state moment errors =
-    option_map_or (λ previous. rates_over previous.errors errors (moment - previous.moment)) state.previous zeros
+    option_map_or (λ previous. rates_over previous.errors errors (moment - previous.moment))
+    state.previous zeros
 
 -- the state after a fix
 abbrev pub after_fix : ControlState → ℕ → FixErrors → ControlState
@@ -94,7 +102,8 @@ after_fix state moment errors = record {
 
 -- the state after these fixes since the last reset
 abbrev pub after_fixes : List Gains → List Sample → ControlState
-after_fixes gains fixes = fold (λ state fix. after_fix state fix.moment fix.errors) (fresh gains) fixes
+after_fixes gains fixes =
+    fold (λ state fix. after_fix state fix.moment fix.errors) (fresh gains) fixes
 
 -- the state is the one after these fixes, at its own gains
 abbrev pub IsAfter : ControlState → List Sample → Type 0

@@ -1,6 +1,7 @@
 //! The controller.
 ghost use Rattle.std.specs.Prelude.{◌≡◌, ◌^◌, ◌*◌, ◌<◌, pos, List, [], ◌∷◌, ◌++◌};
-ghost use Rattle.pid.specs.Control.{AreWithin, IsAfter, IsNext, fresh, after_fix, sums_over, rates_over, demand_from, demand_of};
+ghost use Rattle.pid.specs.Control.{AreWithin, IsAfter, IsNext, fresh, after_fix, sums_over};
+ghost use Rattle.pid.specs.Control.{rates_over, demand_from, demand_of};
 
 use crate::axis::{PerAxis, Sample, asked, output, rate, sum_after};
 use crate::position::{FixErrors, turned};

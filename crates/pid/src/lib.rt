@@ -1,5 +1,5 @@
 //! The controller that keeps a vessel at a wanted position and heading. Nothing here overflows, and
-//! nothing takes memory.
+//! no call has an allocator, so none takes memory.
 #![tactic(auto)]
 
 mod axis;

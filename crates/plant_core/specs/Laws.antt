@@ -25,7 +25,8 @@ IsReadWithName = (body : List ℕ) (t : Telegram) → telegram body ≡ Ok t →
 abbrev pub EmptyIsLegal : Type 0
 EmptyIsLegal = (plant : Parts) (limit : ℕ) → IsLegal plant limit []
 
--- the history before the last entry is legal, the last call is a call, and its reply is allowed in the state before it
+-- the history before the last entry is legal, the last call is a call, and its reply is allowed in
+-- the state before it
 abbrev pub LegalBySteps : Type 0
 LegalBySteps = (plant : Parts) (limit : ℕ) (history : List Entry) (entry : Entry)
     → IsLegal plant limit (history ++ entry ∷ [])

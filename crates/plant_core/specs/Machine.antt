@@ -1,4 +1,5 @@
--- The plant as a machine: which replies a call may have in a state, the state after an entry, and legal histories.
+-- The plant as a machine: which replies a call may have in a state, the state after an entry, and
+-- legal histories.
 use Rattle.std.specs.Prelude.{◌≡◌, ℕ, ◌+◌, ◌<◌, List, [], ◌∷◌, Bool, true, false, Option, Some}
 use Rattle.std.specs.Prelude.{None, if◌then◌else◌, slice_index_or, slice_set, pos}
 use Rattle.std.specs.List.{position, fold}
@@ -83,7 +84,8 @@ HasRoom limit state (calls.Telegram t) = state.events < limit
 HasRoom limit state (calls.Note n) = state.events < limit
 HasRoom limit state calls.Close = Unit {0}
 
--- the reply is allowed in the state: no session was ended, there is room, and it is the call's reply
+-- the reply is allowed in the state: no session was ended, there is room, and it is the call's
+-- reply
 pub record IsAllowed (plant : Parts) (limit : ℕ) (state : State) (call : Call)
     (reply : Reply) : Type 0 where
   pub open_ : state.is_closed ≡ false

@@ -50,7 +50,8 @@ abbrev pub made : (List ℕ → Bool → Telegram) → Result (List ℕ × Bool)
 made make (Ok found) = Ok (make found.0 found.1)
 made make (Err reject) = Err reject
 
--- the telegram of these fields, or the first refusal: the kind, the number of fields, and then each field
+-- the telegram of these fields, or the first refusal: the kind, the number of fields, and then each
+-- field
 abbrev pub telegram_of : List (List ℕ) → Result Telegram Reject
 telegram_of [] = Err Kind
 telegram_of (kind ∷ rest) =

@@ -40,7 +40,11 @@ impl Model for Core {
 
     ghost use Rattle.plant_core.specs.Kept.{IsKept};
 
-    ghost view = { λ core. record { plant = core.plant; limit = core.limit; history = core.history.items } };
+    ghost view = { λ core. record {
+      plant = core.plant;
+      limit = core.limit;
+      history = core.history.items;
+    } };
 
     ghost invariant = { λ core. IsKept core.plant core.limit core.state core.history.items };
 }
@@ -50,7 +54,8 @@ impl Core {
     /// and notes is at most [`MOST_ENTRIES`].
     pub fn start(alloc: Global, plant: Plant, limit: u32) -> Result<Core, NoMemory>
         requires { limit ≤ MOST_ENTRIES }
-        ensures { IfOk result (λ core. core ≡ record { plant = plant; limit = limit; history = [] }) }
+        ensures { IfOk result
+            (λ core. core ≡ record { plant = plant; limit = limit; history = [] }) }
     {
         let state = State {
             latest: Version {

@@ -1,7 +1,10 @@
--- What the calls of angles and of the wind mean. An angle is in centidegrees, and a sine in ten-thousandths.
-use Rattle.std.specs.Prelude.{ℕ, ℤ, pos, ◌+◌, ◌-◌, ◌*◌, ◌/◌, ◌%◌, ◌+ℤ◌, ◌-ℤ◌, ◌*ℤ◌, neg_ℤ, nat_le, if◌then◌else◌, List, unwrap_or, slice_get}
+-- What the calls of angles and of the wind mean. An angle is in centidegrees, and a sine in
+-- ten-thousandths.
+use Rattle.std.specs.Prelude.{ℕ, ℤ, pos, ◌+◌, ◌-◌, ◌*◌, ◌/◌, ◌%◌, ◌+ℤ◌, ◌-ℤ◌, ◌*ℤ◌, neg_ℤ, nat_le}
+use Rattle.std.specs.Prelude.{if◌then◌else◌, List, unwrap_or, slice_get}
 use Rattle.dp_num.specs.Quotients.{floor_quotient}
-use Rattle.plant_model.specs.declared.limits.TheConstants.{HALF_TURN, QUARTER_TURN, WHOLE_TURN, WIND_ROWS}
+use Rattle.plant_model.specs.declared.limits.TheConstants.{HALF_TURN, QUARTER_TURN, WHOLE_TURN}
+use Rattle.plant_model.specs.declared.limits.TheConstants.{WIND_ROWS}
 use Rattle.plant_model.specs.declared.controller.WindRow.{WindRow}
 use Rattle.plant_model.specs.declared.wrench.Load.{Load}
 use Rattle.wind_axes.specs.declared.angle.TheConstants.{WHOLE_SINE}
@@ -23,7 +26,8 @@ sine_of angle =
 abbrev pub cosine_of : ℕ → ℤ
 cosine_of angle = sine_of ((angle + QUARTER_TURN) % WHOLE_TURN)
 
--- how far ahead of a vessel of this heading a point lies that is so far to the north and to the east
+-- how far ahead of a vessel of this heading a point lies that is so far to the north and to the
+-- east
 abbrev pub ahead_of : ℤ → ℤ → ℕ → ℤ
 ahead_of north east heading =
     floor_quotient (north *ℤ cosine_of heading +ℤ east *ℤ sine_of heading) WHOLE_SINE
@@ -35,7 +39,8 @@ starboard_of north east heading =
 
 -- the row at a number of tens of degrees, of which the last is followed by the first
 abbrev pub row_at : List WindRow → ℕ → WindRow
-row_at table tens = unwrap_or (slice_get table (tens % WIND_ROWS)) (record { x = pos 0; y = pos 0; n = pos 0 })
+row_at table tens =
+    unwrap_or (slice_get table (tens % WIND_ROWS)) (record { x = pos 0; y = pos 0; n = pos 0 })
 
 -- the coefficient so many centidegrees after one row's, on the way to the next row's
 abbrev pub coefficient_between : ℤ → ℤ → ℕ → ℤ

@@ -1,5 +1,5 @@
 //! Angles in whole numbers: sines, turned axes, and what the wind does to a hull. Nothing here
-//! overflows, and nothing takes memory.
+//! overflows, and no call has an allocator, so none takes memory.
 #![tactic(auto)]
 
 mod angle;

@@ -1,10 +1,10 @@
 -- Greatest products and supports, one element more, and what they are at least.
-use Rattle.std.proofs.Common.{Bool, true, false, cond, ◌≡◌, ℕ, ◌+◌, ◌*◌, ◌^◌, ◌<◌, ◌≤◌, ℤ, pos, ◌+ℤ◌, ◌≤ℤ◌, List, length, take, get_or, ap, ap₂, sym, ◌∙◌, refl, arith, SFits, w64}
+use Rattle.std.proofs.Common.{Bool, true, false, cond, ◌≡◌, ℕ, zero, suc, ◌+◌, ◌*◌, ◌^◌, ◌<◌, ◌≤◌, ℤ, pos, ◌+ℤ◌, ◌≤ℤ◌, List, [], ◌∷◌, All, fold, map, length, take, get_or, ap, ap₂, sym, ◌∙◌, refl, arith, SFits, w64}
 use Rattle.std.specs.Int.{int_max}
 use Rattle.std.specs.Ordering.{ord_max, int_cmp, is_lt}
 use Rattle.std.specs.declared.cmp.Ordering.TheVariants.{Less, Equal, Greater}
 use Rattle.std.proofs.Common.{int_lt}
-use Rattle.std.proofs.lemmas.Int.{int_max_is}
+use Rattle.std.proofs.lemmas.Int.{fold-int_max_bounds, int_max_is}
 use Rattle.std.proofs.lemmas.List.Sums.{fold_more}
 use Rattle.std.proofs.lemmas.List.Folds.{fold-map}
 use Rattle.int_ring.proofs.Laws.{linear}
@@ -76,3 +76,30 @@ module _ (w : Vec3) (list : List Vec3) (i place : ℕ) (g p : ℤ) (h : i < leng
 
   pub next_place_left : (g' : ℤ) (place' : ℕ) → g' ≡ g → place' ≡ place → p ≤ℤ g → (g' ≡ greatest_of w (take (i + 1) list)) × (dot_of w (image_at list place') ≡ g') × (place' ≤ length list)
   next_place_left g' place' e f l = (e ∙ sym (more_is ∙ max-left g p l), ap (λ (n : ℕ). dot_of w (image_at list n)) f ∙ k.1 ∙ sym e, rw f k.2)
+
+-- ---- supports by their parts
+
+sum_from : (xs : List ℤ) (a b : ℤ) → fold ◌+ℤ◌ (a +ℤ b) xs ≡ a +ℤ fold ◌+ℤ◌ b xs
+sum_from [] a b = refl
+sum_from (x ∷ xs) a b = ap (λ (z : ℤ). fold ◌+ℤ◌ z xs) (regroup a b x) ∙ sum_from xs a (b +ℤ x)
+  where
+    regroup : (a b x : ℤ) → a +ℤ b +ℤ x ≡ a +ℤ (b +ℤ x)
+    regroup a b x = omega (arith, linear)
+
+pub support_cons : (w : Vec3) (list : List Vec3) (lists : List (List Vec3)) → support_of (list ∷ lists) w ≡ greatest_of w list +ℤ support_of lists w
+support_cons w list lists = ap (λ (z : ℤ). fold ◌+ℤ◌ z (map (greatest_of w) lists)) (swap (greatest_of w list)) ∙ sum_from (map (greatest_of w) lists) (greatest_of w list) (pos 0)
+  where
+    swap : (a : ℤ) → pos 0 +ℤ a ≡ a +ℤ pos 0
+    swap a = omega (arith, linear)
+
+-- the greatest product is at least 0, and at least each image's
+pub greatest_from_0 : (w : Vec3) (list : List Vec3) → pos 0 ≤ℤ greatest_of w list
+greatest_from_0 w list = (fold-int_max_bounds (pos 0) (map (dot_of w) list) (greatest_of w list) refl).0
+
+pub greatest_at_least : (w : Vec3) (list : List Vec3) → All (λ v. dot_of w v ≤ℤ greatest_of w list) list
+greatest_at_least w list = All-from_map list (greatest_of w list) (fold-int_max_bounds (pos 0) (map (dot_of w) list) (greatest_of w list) refl).1
+  where
+    All-from_map : (list : List Vec3) (g : ℤ) → All (λ z. z ≤ℤ g) (map (dot_of w) list) → All (λ v. dot_of w v ≤ℤ g) list
+    All-from_map [] g h k d p = absurd (omega arith)
+    All-from_map (v ∷ list) g h zero d p = h 0 (pos 0) (omega arith)
+    All-from_map (v ∷ list) g h (suc k) d p = All-from_map list g (λ i e q. h (suc i) e (omega arith)) k d (omega arith)

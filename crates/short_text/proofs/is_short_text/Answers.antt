@@ -14,4 +14,5 @@ returns-then-bytes-most g c =
     all_from_yields_List has _ _ c.all.result c.all.ensures.ran
     (YieldsList-from_slice c.args.bytes.now cc) (λ x b q k. search (rules, tests)) in
     let some : 1 ≤ length c.args.bytes.now = grind (arith, nat_tests) in
-    is_short_text-from_list_all has c.args.most c.args.bytes.now c.all.result some c.if-bytes-most.true.1 each
+    is_short_text-from_list_all has c.args.most c.args.bytes.now c.all.result some
+    c.if-bytes-most.true.1 each

@@ -6,10 +6,12 @@ use Rattle.dp_cli.proofs.dp_words.first_dashes.Goals as goal
 
 pub returns-clause-found : goal.returns-clause-found
 returns-clause-found c =
-    c.unwrap_or.ensures ∙ ap (λ place. unwrap_or place (length c.args.words.now)) c.find_dashes.ensures
+    c.unwrap_or.ensures ∙ ap (λ place. unwrap_or place (length c.args.words.now))
+    c.find_dashes.ensures
     ∙ first_or_len (λ word. is_dashes (0, string_bytes word)) c.args.words.now
 
 pub returns-clause-within : goal.returns-clause-within
 returns-clause-within c =
     let found = returns-clause-found c in
-    subst (λ place. place ≤ length c.args.words.now) (sym found) (first_within (λ word. is_dashes (0, string_bytes word)) c.args.words.now)
+    subst (λ place. place ≤ length c.args.words.now) (sym found)
+    (first_within (λ word. is_dashes (0, string_bytes word)) c.args.words.now)

@@ -6,4 +6,5 @@ use Rattle.dp_cli.specs.Texts.{report_head, group_text}
 use Rattle.dp_cli.proofs.log_text.report_text.Given as goal
 
 abbrev pub invariant-loop-group : goal.invariant-loop-group
-invariant-loop-group l = string_bytes l.text ≡ report_head (state_after l.core.plant l.core.history) ++ flat_map group_text (take l.group-index l.group-items)
+invariant-loop-group l = string_bytes l.text ≡ report_head (state_after l.core.plant l.core.history)
+    ++ flat_map group_text (take l.group-index l.group-items)

@@ -2,8 +2,9 @@
 use Rattle.std.proofs.Common.{◌<◌, ◌+◌, List, ℕ, ◌++◌, length, take, sym, subst, arith}
 use Rattle.std.proofs.lemmas.Result.{err_from_is_err_and, on_err_weaker}
 use Rattle.dp_io.specs.Streams.{Grew}
+use Rattle.dp_io.proofs.Grown.{Grew-append}
 use Rattle.dp_cli.specs.Sessions.{GrewInPart}
-use Rattle.dp_cli.proofs.Given.{grew-more, lines-more, part-front, part-back}
+use Rattle.dp_cli.proofs.Given.{lines-more, part-front, part-back}
 use Rattle.dp_cli.proofs.session.send_lines.Goals as goal
 
 pub returns-in_err-send_all-clause-part : goal.returns-in_err-send_all-clause-part
@@ -14,9 +15,11 @@ returns-in_err-send_all-clause-part g c =
     let sent = c.loop-end.invariant.sent in
     let line = c.split_at.result.0.now in
     let rest = c.split_at.result.1.now in
-    let text = lines-more c.args.text.now sent.0 c.loop-end.rest.now line rest (c.in-Some.end + 1) sent.1 c.split_at.ensures.front c.split_at.ensures.back in
+    let text = lines-more c.args.text.now sent.0 c.loop-end.rest.now line rest (c.in-Some.end + 1)
+    sent.1 c.split_at.ensures.front c.split_at.ensures.back in
     let some = c.in_err-send_all.ensures.part in
-    let part = part-front before after (sent.0 ++ line) rest (part-back before middle after sent.0 line sent.2 (some.0, some.2)) in
+    let part = part-front before after (sent.0 ++ line) rest
+    (part-back before middle after sent.0 line sent.2 (some.0, some.2)) in
     let failed = err_from_is_err_and c.from_residual.result c.from_residual.ensures.1 in
     rw failed.1 (subst (λ (t : List ℕ). GrewInPart before after t) (sym text) part)
 
@@ -24,9 +27,15 @@ pub loop-end-preserved : goal.loop-end-preserved
 loop-end-preserved g c =
     let sent = c.loop-end.invariant.sent in
     let line = c.split_at.result.0.now in
-    let text = lines-more c.args.text.now sent.0 c.loop-end.rest.now line c.split_at.result.1.now (c.in-Some.end + 1) sent.1 c.split_at.ensures.front c.split_at.ensures.back in
+    let text = lines-more c.args.text.now sent.0 c.loop-end.rest.now line c.split_at.result.1.now
+    (c.in-Some.end + 1) sent.1 c.split_at.ensures.front c.split_at.ensures.back in
     record {
-      sent = (sent.0 ++ line, text, grew-more _ _ _ sent.0 line sent.2 c.in_ok-send_all.ensures.whole);
+      sent = (
+        sent.0 ++ line,
+        text,
+        Grew-append _ _ _ sent.0 line sent.2
+            c.in_ok-send_all.ensures.whole,
+      );
       counted = omega arith;
     }
 
@@ -39,5 +48,6 @@ returns-clause-part g c =
     let rest : List ℕ = c.loop-end.rest.now in
     on_err_weaker c.send_all-2.result
     (λ (some : (n : ℕ) × (n < length rest) × Grew middle after (take n rest)).
-    subst (λ (t : List ℕ). GrewInPart before after t) (sym sent.1) (part-back before middle after sent.0 rest sent.2 (some.0, some.2)))
+    subst (λ (t : List ℕ). GrewInPart before after t) (sym sent.1)
+    (part-back before middle after sent.0 rest sent.2 (some.0, some.2)))
     c.send_all-2.ensures.part

@@ -5,7 +5,8 @@ use Rattle.dp_cli.proofs.session.send_lines.Given as goal
 
 abbrev pub invariant-loop-end : goal.invariant-loop-end
 invariant-loop-end g l = record {
-  sent : (lines : List ℕ) × (l.fn.text ≡ lines ++ l.rest) × Grew (g.S.Sink.taken l.fn.sink) (g.S.Sink.taken l.sink) lines;
+  sent : (lines : List ℕ) × (l.fn.text ≡ lines ++ l.rest)
+      × Grew (g.S.Sink.taken l.fn.sink) (g.S.Sink.taken l.sink) lines;
   counted : g.S.Sink.faults l.fn.sink ≤ g.S.Sink.faults l.sink;
 }
 

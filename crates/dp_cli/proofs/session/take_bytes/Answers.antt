@@ -1,5 +1,6 @@
 -- One more byte of the stream, and the item that it may complete.
-use Rattle.std.proofs.Common.{◌<◌, ◌≤◌, List, ℕ, [], ◌∷◌, ◌++◌, length, take, sym, rules, subst, arith}
+use Rattle.std.proofs.Common.{◌<◌, ◌≤◌, List, ℕ, [], ◌∷◌, ◌++◌, length, take, sym, rules, subst}
+use Rattle.std.proofs.Common.{arith}
 use Rattle.std.proofs.lemmas.List.{append-nil, length-append, length-take}
 use Rattle.frame.specs.Frames.{items}
 use Rattle.frame.specs.declared.item.Item.{Item}
@@ -13,7 +14,8 @@ use Rattle.dp_cli.proofs.session.take_bytes.Goals.{in-Some+in_ok-take_item, in_d
 pub take_item-requires : goal.take_item-requires
 take_item-requires c =
     let fed : List ℕ = c.requires.room.0 ++ take c.loop-byte.byte-index c.args.bytes.now in
-    let answered = (c.loop-byte.invariant.answered c.requires.room.0 c.requires.room.1 c.requires.room.2).1 in
+    let answered =
+    (c.loop-byte.invariant.answered c.requires.room.0 c.requires.room.1 c.requires.room.2).1 in
     let short : length fed ≤ MOST_STREAM_BYTES =
     omega (
       arith,
@@ -22,7 +24,13 @@ take_item-requires c =
       c.requires.room.3,
     ) in
     let few : length (items fed) < MOST_ENTRIES = few-items fed short in
-    record { room = (items fed, answered, omega (arith, few, c.loop-byte.invariant.limit, c.requires.room.4)) }
+    record {
+      room = (
+        items fed,
+        answered,
+        omega (arith, few, c.loop-byte.invariant.limit, c.requires.room.4),
+      );
+    }
 
 pub loop-byte-preserved : goal.loop-byte-preserved
 loop-byte-preserved c =
@@ -36,9 +44,11 @@ loop-byte-preserved c =
             let before = c.loop-byte.invariant.answered fed stands answers in
             let all = fed ++ take i bytes in
             let now = w.in_ok-take_item.ensures.answered (items all) before.1 in
-            answered-more c.feed.new.self c.match-feed.core.history fed bytes i (w.in-Some.item ∷ []) c.loop-byte-test.true
+            answered-more c.feed.new.self c.match-feed.core.history fed bytes i
+            (w.in-Some.item ∷ []) c.loop-byte-test.true
             (c.feed.ensures.stands all before.0) (w.in-Some.ensures.items all before.0)
-            (subst (λ (m : CoreView). AnswersItems m.history (items all ++ w.in-Some.item ∷ [])) (sym w.core-is) now);
+            (subst (λ (m : CoreView). AnswersItems m.history (items all ++ w.in-Some.item ∷ []))
+            (sym w.core-is) now);
       }
       | in_default w ↦ record {
         plant = search rules;
@@ -48,8 +58,10 @@ loop-byte-preserved c =
             let all = fed ++ take i bytes in
             let same : AnswersItems c.match-feed.core.history (items all) =
             subst (λ (m : CoreView). AnswersItems m.history (items all)) (sym w.core-is) before.1 in
-            answered-more c.feed.new.self c.match-feed.core.history fed bytes i [] c.loop-byte-test.true
+            answered-more c.feed.new.self c.match-feed.core.history fed bytes i []
+            c.loop-byte-test.true
             (c.feed.ensures.stands all before.0) (w.in_default.ensures.items all before.0)
-            (subst (λ (xs : List Item). AnswersItems c.match-feed.core.history xs) (sym (append-nil (items all))) same);
+            (subst (λ (xs : List Item). AnswersItems c.match-feed.core.history xs)
+            (sym (append-nil (items all))) same);
       }
     ]

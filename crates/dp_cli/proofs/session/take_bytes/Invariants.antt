@@ -9,5 +9,6 @@ invariant-loop-byte l = record {
   plant : l.core.plant ≡ l.fn.core.plant;
   limit : l.core.limit ≡ l.fn.core.limit;
   answered : (fed : List ℕ) → StandsFor l.fn.framer fed → AnswersItems l.fn.core.history (items fed)
-      → StandsFor l.framer (fed ++ take l.byte-index l.bytes) × AnswersItems l.core.history (items (fed ++ take l.byte-index l.bytes));
+      → StandsFor l.framer (fed ++ take l.byte-index l.bytes)
+      × AnswersItems l.core.history (items (fed ++ take l.byte-index l.bytes));
 }

@@ -12,7 +12,13 @@ pub take_item-requires : goal.take_item-requires
 take_item-requires g c =
     let fed = c.loop-count.invariant.fed in
     let few : length (items fed.0) < MOST_ENTRIES = few-items fed.0 (omega (arith, fed.4)) in
-    record { room = (items fed.0, fed.3, omega (arith, few, c.loop-count.invariant.limit, c.requires.limit)) }
+    record {
+      room = (
+        items fed.0,
+        fed.3,
+        omega (arith, few, c.loop-count.invariant.limit, c.requires.limit),
+      );
+    }
 
 pub returns-then-count-room-clause-answered : goal.returns-then-count-room-clause-answered
 returns-then-count-room-clause-answered g c =
@@ -21,7 +27,19 @@ returns-then-count-room-clause-answered g c =
     let count : ℕ = c.in-Ok.count in
     let given = gave-more _ _ _ fed.0 (take count piece) fed.1 c.in-Ok.ensures.moved in
     let long : MOST_STREAM_BYTES < length (fed.0 ++ take count piece) =
-    omega (arith, length-append fed.0 (take count piece), length-take count piece, c.in-Ok.ensures.within, fed.4) in
+    omega (
+      arith,
+      length-append fed.0 (take count piece),
+      length-take count piece,
+      c.in-Ok.ensures.within,
+      fed.4,
+    ) in
     let answers = (c.in_ok-take_bytes.ensures.answered fed.0 fed.2 fed.3).1 in
-    let front = take-limit MOST_STREAM_BYTES fed.0 piece c.loop-count.room count fed.4 (omega arith) in
-    (fed.0 ++ take count piece, given, long, subst (λ (t : List ℕ). AnswersItems c.take_bytes.new.core.history (items t)) (sym front) answers)
+    let front =
+    take-limit MOST_STREAM_BYTES fed.0 piece c.loop-count.room count fed.4 (omega arith) in (
+      fed.0 ++ take count piece,
+      given,
+      long,
+      subst (λ (t : List ℕ). AnswersItems c.take_bytes.new.core.history (items t)) (sym front)
+          answers,
+    )

@@ -11,7 +11,8 @@ invariant-loop-count g l = record {
   plant : l.core.plant ≡ l.fn.core.plant;
   limit : l.core.limit ≡ l.fn.core.limit;
   counted : g.S.Source.faults l.fn.source ≤ g.S.Source.faults l.source;
-  fed : (bytes : List ℕ) × Gave (g.S.Source.left l.fn.source) (g.S.Source.left l.source) bytes × StandsFor l.framer bytes
+  fed : (bytes : List ℕ) × Gave (g.S.Source.left l.fn.source) (g.S.Source.left l.source) bytes
+      × StandsFor l.framer bytes
       × AnswersItems l.core.history (items bytes) × (length bytes + l.room ≡ MOST_STREAM_BYTES);
 }
 

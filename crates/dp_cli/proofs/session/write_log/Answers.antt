@@ -1,5 +1,6 @@
 -- The first line in part, the line of an entry in part, and a line more.
-use Rattle.std.proofs.Common.{◌≡◌, List, ℕ, ◌++◌, subst, arith}
+use Rattle.std.proofs.Common.{◌≡◌, List, ℕ, ◌++◌, Err, ◌∙◌, ap, subst, arith}
+use Rattle.std.proofs.lemmas.Result.{err_from_is_err_and}
 use Rattle.std.specs.List.{flat_map}
 use Rattle.dp_io.specs.Streams.{Grew}
 use Rattle.plant_core.specs.declared.call.Entry.{Entry}
@@ -7,36 +8,56 @@ use Rattle.dp_cli.specs.Sessions.{GrewInPart}
 use Rattle.dp_cli.specs.Texts.{log_head, entry_text}
 use Rattle.dp_cli.proofs.Given.{part-front}
 use Rattle.dp_cli.proofs.Logs.{lines-part, lines-whole, part-as}
+use Rattle.dp_cli.proofs.Writing.{text-failed}
 use Rattle.dp_cli.proofs.session.write_log.Goals as goal
 
-pub returns-in_err-send_all-clause-part : goal.returns-in_err-send_all-clause-part
-returns-in_err-send_all-clause-part g c = λ _.
+pub returns-in_err-send_all : goal.returns-in_err-send_all
+returns-in_err-send_all g c =
     let before = g.S.Sink.taken c.args.out.now in
     let after = g.S.Sink.taken c.send_all.new.sink in
     let plant = c.args.core.now.plant in
-    let text : c.as_bytes.result.now ≡ log_head plant = cc (c.as_bytes.ensures.value, c.in_ok-head.ensures, c.plant.ensures) in
+    let text : c.as_bytes.result.now ≡ log_head plant =
+    cc (c.as_bytes.ensures.value, c.in_ok-head.ensures, c.plant.ensures) in
+    let part =
     part-front before after (log_head plant) (flat_map entry_text c.args.core.now.history)
-    (part-as before after c.as_bytes.result.now (log_head plant) text c.in_err-send_all.ensures.part)
+    (part-as before after c.as_bytes.result.now (log_head plant) text
+    c.in_err-send_all.ensures.part) in
+    let failed = err_from_is_err_and c.from_residual-in_err-send_all.result
+    c.from_residual-in_err-send_all.ensures.1 in
+    text-failed _ _ _ (failed.1 ∙ ap Err failed.2) part c.in_err-send_all.ensures.failed
+    c.send_all.ensures.counted
 
-pub returns-in_err-send_all-2-clause-part : goal.returns-in_err-send_all-2-clause-part
-returns-in_err-send_all-2-clause-part g c = λ _.
+pub returns-in_err-send_all-2 : goal.returns-in_err-send_all-2
+returns-in_err-send_all-2 g c =
     let before = g.S.Sink.taken c.args.out.now in
     let middle = g.S.Sink.taken c.loop-entry.out in
     let after = g.S.Sink.taken c.send_all-in-loop-entry.new.sink in
-    let text : c.as_bytes-in-loop-entry.result.now ≡ entry_text c.entry-item.result = cc (c.as_bytes-in-loop-entry.ensures.value, c.in_ok-line.ensures) in
-    let part = lines-part before middle after (log_head c.args.core.now.plant) entry_text c.history-entry-items.result.now c.loop-entry.entry-index
+    let text : c.as_bytes-in-loop-entry.result.now ≡ entry_text c.entry-item.result =
+    cc (c.as_bytes-in-loop-entry.ensures.value, c.in_ok-line.ensures) in
+    let part = lines-part before middle after (log_head c.args.core.now.plant) entry_text
+    c.history-entry-items.result.now c.loop-entry.entry-index
     c.entry-item.result (omega arith) c.entry-item.is c.loop-entry.invariant.sent
-    (part-as middle after c.as_bytes-in-loop-entry.result.now (entry_text c.entry-item.result) text c.in_err-send_all-2.ensures.part) in
-    subst (λ (h : List Entry). GrewInPart before after (log_head c.args.core.now.plant ++ flat_map entry_text h)) c.history-entry-items.ensures.entries part
+    (part-as middle after c.as_bytes-in-loop-entry.result.now (entry_text c.entry-item.result) text
+    c.in_err-send_all-2.ensures.part) in
+    let failed = err_from_is_err_and c.from_residual-in_err-send_all-2.result
+    c.from_residual-in_err-send_all-2.ensures.1 in
+    text-failed _ _ _ (failed.1 ∙ ap Err failed.2)
+    (subst (λ (h : List Entry). GrewInPart before after
+    (log_head c.args.core.now.plant ++ flat_map entry_text h)) c.history-entry-items.ensures.entries
+    part)
+    (omega (arith, c.loop-entry.invariant.counted, c.in_err-send_all-2.ensures.failed))
+    (omega (arith, c.loop-entry.invariant.counted, c.send_all-in-loop-entry.ensures.counted))
 
 pub loop-entry-preserved : goal.loop-entry-preserved
 loop-entry-preserved g c =
     let before = g.S.Sink.taken c.args.out.now in
     let middle = g.S.Sink.taken c.loop-entry.out in
     let after = g.S.Sink.taken c.send_all-in-loop-entry.new.sink in
-    let text : c.as_bytes-in-loop-entry.result.now ≡ entry_text c.entry-item.result = cc (c.as_bytes-in-loop-entry.ensures.value, c.in_ok-line.ensures) in
+    let text : c.as_bytes-in-loop-entry.result.now ≡ entry_text c.entry-item.result =
+    cc (c.as_bytes-in-loop-entry.ensures.value, c.in_ok-line.ensures) in
     record {
-      sent = lines-whole before middle after (log_head c.args.core.now.plant) entry_text c.history-entry-items.result.now c.loop-entry.entry-index
+      sent = lines-whole before middle after (log_head c.args.core.now.plant) entry_text
+          c.history-entry-items.result.now c.loop-entry.entry-index
           c.entry-item.result (omega arith) c.entry-item.is c.loop-entry.invariant.sent
           (subst (λ (t : List ℕ). Grew middle after t) text c.in_ok-send_all-2.ensures.whole);
       counted = omega arith;

@@ -17,6 +17,9 @@ overflow_cast-result c = fits (search machine depth 40 fits 5000) tt
 
 pub returns : goal.returns
 returns c =
-    let before : pos ROW_SPACING -ℤ pos c.args.rest ≡ pos (ROW_SPACING - c.args.rest) = omega (arith, ints) in
+    let before : pos ROW_SPACING -ℤ pos c.args.rest ≡ pos (ROW_SPACING - c.args.rest) =
+    omega (arith, ints) in
     strip (search machine depth 40 fits 5000) tt
-    ∙ ap (λ (weight : ℤ). component_of (floor_quotient (c.args.here *ℤ weight +ℤ c.args.next *ℤ pos c.args.rest) (pos ROW_SPACING)) c.args.speed) before
+    ∙ ap (λ (weight : ℤ). component_of
+    (floor_quotient (c.args.here *ℤ weight +ℤ c.args.next *ℤ pos c.args.rest) (pos ROW_SPACING))
+    c.args.speed) before

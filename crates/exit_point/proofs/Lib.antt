@@ -1,0 +1,6 @@
+pub mod Spans
+pub mod Kept
+pub mod Rows
+pub mod ListRows
+pub mod Least
+pub mod Divided
