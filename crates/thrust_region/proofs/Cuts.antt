@@ -45,12 +45,16 @@ whole_walk n some =
     let all : suc (n - 1) ≡ n = omega arith in
     walk-round n (n + 1) 0 ∙ ap (λ (k : ℕ). round n k 0) count ∙ round-split n (n - 1) 1 0 (omega arith) ∙ ap (λ (k : ℕ). range_with_len 0 k ++ 0 ∷ []) all
 
+-- the run round a ring without sectors is a walk that never stops
+pub whole_run_walk : (ring : List Point) → 0 < length ring → ring ++ point_at ring 0 ∷ [] ≡ map (point_at ring) (walk (λ p. false) (length ring) (length ring + 1) 0)
+whole_run_walk ring some = sym (whole_points ring) ∙ ap (map (point_at ring)) (sym (whole_walk (length ring) some))
+
 whole_fits : (ring : List Point) → is_ring ring ≡ true → length ring ≢ 2 → length (cut ring []) ≤ length ring
 whole_fits ring is longer =
     let round_is : is_round ring ≡ true = ring_is_round ring is longer in
     let three = round_has_three ring round_is in
     let run : List Point = ring ++ point_at ring 0 ∷ [] in
-    let walked : run ≡ map (point_at ring) (walk (λ p. false) (length ring) (length ring + 1) 0) = sym (whole_points ring) ∙ ap (map (point_at ring)) (sym (whole_walk (length ring) (omega arith))) in
+    let walked : run ≡ map (point_at ring) (walk (λ p. false) (length ring) (length ring + 1) 0) = whole_run_walk ring (omega arith) in
     let turning : AreTurning run = rw walked (walk_turns ring round_is (λ p. false) (length ring + 1) 0 (omega arith)) in
     let count : length run ≡ length ring + 1 = length-append ring (point_at ring 0 ∷ []) in
     let few : length (wedges (length run) run) < length run = wedges_below (length run) run turning (omega arith) in
@@ -66,6 +70,11 @@ cut_runs : (ring : List Point) (sectors : List Sector) → length ring ≢ 2 →
 cut_runs ring [] longer some = absurd (omega arith)
 cut_runs ring (s ∷ ss) longer some = cut_is ring (s ∷ ss) longer
 
+-- the pieces of a ring with sectors, place by place
+pub cut_by_places : (ring : List Point) (s : Sector) (ss : List Sector) → length ring ≢ 2 →
+    cut ring (s ∷ ss) ≡ flat_map (λ place. wedges_along ring (run_from (length ring) (s ∷ ss) place)) (filter (ends_at (s ∷ ss)) (places (length ring)))
+cut_by_places ring s ss longer = cut_is ring (s ∷ ss) longer ∙ flat_map-map (wedges_along ring) (run_from (length ring) (s ∷ ss)) (filter (ends_at (s ∷ ss)) (places (length ring)))
+
 pub cut_fits : (ring : List Point) (sectors : List Sector) → is_ring ring ≡ true → are_sectors (length ring) sectors ≡ true → length ring ≢ 2 → length (cut ring sectors) ≤ MOST_PIECES
 cut_fits ring [] is valid longer =
     let few = ring_fits ring is in
@@ -74,9 +83,7 @@ cut_fits ring [] is valid longer =
 cut_fits ring (s ∷ ss) is valid longer =
     let few = ring_fits ring is in
     let all = runs_fit ring is longer (s ∷ ss) valid in
-    let same : cut ring (s ∷ ss) ≡ flat_map (λ place. wedges_along ring (run_from (length ring) (s ∷ ss) place)) (filter (ends_at (s ∷ ss)) (places (length ring))) =
-    cut_is ring (s ∷ ss) longer ∙ flat_map-map (wedges_along ring) (run_from (length ring) (s ∷ ss)) (filter (ends_at (s ∷ ss)) (places (length ring))) in
-    rw same (omega arith)
+    rw (cut_by_places ring s ss longer) (omega arith)
 
 module _ (ring : List Point) (sectors : List Sector) (place : ℕ) (there : place < length ring) where
   left : length ring - place ≡ suc (length ring - (place + 1))

@@ -1,7 +1,10 @@
+pub mod Avoid
 pub mod Digits
 pub mod Counts
 pub mod Cuts
 pub mod Lists
+pub mod Parts
+pub mod Plane
 pub mod Rings
 pub mod Runs
 pub mod Sectors

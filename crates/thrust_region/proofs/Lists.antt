@@ -1,6 +1,7 @@
 -- Lists in two parts.
-use Rattle.std.proofs.Common.{◌≡◌, ◌∙◌, ap, sym, refl, ℕ, zero, suc, ◌+◌, ◌<◌, ◌≤◌, ◌++◌, List, [], ◌∷◌, length, map, drop, get_or, Bool, true, append_assoc, append-nil, length-append, drop-cons, add-one, arith}
-use Rattle.std.specs.List.{list_all}
+use Rattle.std.proofs.Common.{◌≡◌, ◌∙◌, ap, sym, refl, ℕ, zero, suc, ◌+◌, ◌<◌, ◌≤◌, ◌++◌, List, [], ◌∷◌, length, map, drop, take, get_or, subst, Bool, true, false, cond, append_assoc, append-nil, length-append, drop-cons, add-one, arith}
+use Rattle.std.specs.Prelude.{filter, flat_map}
+use Rattle.std.specs.List.{list_all, prefix_len, range_with_len, take_while, Contains}
 use Rattle.std.proofs.lemmas.Bool.{and_from, and_parts}
 use Rattle.std.proofs.lemmas.List.{length-map, map-append}
 
@@ -38,3 +39,46 @@ all_more test (y ∷ ys) x all one =
 
 pub left_from : {A : Type 0} (list : List A) (i : ℕ) (d : A) → i < length list → drop i list ≡ get_or list i d ∷ drop (i + 1) list
 left_from list i d there = rw (add-one, drop-cons list i d) refl
+
+-- ---- facts of each element
+
+abbrev pub Each : {A : Type 0} → (A → Type 0) → List A → Type 0
+Each P [] = Unit {0}
+Each P (x ∷ xs) = P x × Each P xs
+
+pub Each-append : {A : Type 0} (P : A → Type 0) (xs ys : List A) → Each P xs → Each P ys → Each P (xs ++ ys)
+Each-append P [] ys each others = others
+Each-append P (x ∷ xs) ys each others = (each.0, Each-append P xs ys each.1 others)
+
+pub Each-take : {A : Type 0} (P : A → Type 0) (k : ℕ) (xs : List A) → Each P xs → Each P (take k xs)
+Each-take P zero xs each = tt
+Each-take P (suc k) [] each = tt
+Each-take P (suc k) (x ∷ xs) each = (each.0, Each-take P k xs each.1)
+
+pub Each-get : {A : Type 0} (P : A → Type 0) (xs : List A) (k : ℕ) (d : A) → k < length xs → Each P xs → P (get_or xs k d)
+Each-get P [] k d there each = absurd (omega arith)
+Each-get P (x ∷ xs) zero d there each = each.0
+Each-get P (x ∷ xs) (suc k) d there each = Each-get P xs k d (omega arith) each.1
+
+pub Each-contains : {A : Type 0} (P : A → Type 0) (xs : List A) (x : A) → Each P xs → Contains xs x → P x
+Each-contains P xs x each one = subst P one.2 (Each-get P xs one.0 x one.1 each)
+
+pub Each-flat_map : {A B : Type 0} (P : B → Type 0) (f : A → List B) (xs : List A) → Each (λ x. Each P (f x)) xs → Each P (flat_map f xs)
+Each-flat_map P f [] each = tt
+Each-flat_map P f (x ∷ xs) each = Each-append P (f x) (flat_map f xs) each.0 (Each-flat_map P f xs each.1)
+
+pub Each-filter : (P : ℕ → Type 0) (test : ℕ → Bool) (from count : ℕ) → ((i : ℕ) → i < from + count → test i ≡ true → P i) → Each P (filter test (range_with_len from count))
+Each-filter P test from zero all = tt
+Each-filter P test from (suc count) all = by_test (test from) refl (Each-filter P test (from + 1) count (λ i h. all i (omega arith)))
+  where
+    by_test : (b : Bool) → test from ≡ b → Each P (filter test (range_with_len (from + 1) count)) → Each P (cond b (from ∷ filter test (range_with_len (from + 1) count)) (filter test (range_with_len (from + 1) count)))
+    by_test true is others = (all from (omega arith) is, others)
+    by_test false is others = others
+
+pub Each-take_while : {A : Type 0} (test : A → Bool) (xs : List A) → Each (λ x. test x ≡ true) (take_while test xs)
+Each-take_while test [] = tt
+Each-take_while {A} test (x ∷ xs) = by_test (test x) refl (Each-take_while test xs)
+  where
+    by_test : (b : Bool) → test x ≡ b → Each (λ (y : A). test y ≡ true) (take_while test xs) → Each (λ (y : A). test y ≡ true) (take (cond b (1 + prefix_len test xs) 0) (x ∷ xs))
+    by_test true is others = let count : 1 + prefix_len test xs ≡ suc (prefix_len test xs) = omega arith in rw count (is, others)
+    by_test false is others = tt

@@ -1,6 +1,7 @@
 -- What rings of three points and more keep: each edge turns from one end to the other.
-use Rattle.std.proofs.Common.{◌≡◌, refl, ℕ, zero, suc, ◌<◌, ◌≤◌, ◌≢◌, pos, ◌<ℤ◌, int_le, int_lt, List, [], ◌∷◌, length, map, Bool, true, false, cond, arith}
-use Rattle.std.proofs.lemmas.Bool.{and_parts}
+use Rattle.std.proofs.Common.{◌≡◌, ◌∙◌, ap, sym, refl, ℕ, zero, suc, ◌+◌, ◌<◌, ◌≤◌, ◌≢◌, ℤ, pos, ◌<ℤ◌, ◌≤ℤ◌, int_le, int_lt, List, [], ◌∷◌, length, map, Bool, true, false, cond, ◌&&◌, ◌||◌, arith}
+use Rattle.std.proofs.Math.Dec.{eqb, ltb}
+use Rattle.std.proofs.lemmas.Bool.{and_parts, eqb-true, ltb-true}
 use Rattle.std.proofs.lemmas.Bool.Decides.{nat_tests}
 use Rattle.std.specs.List.{list_all}
 use Rattle.int_ring.proofs.Laws.{linear}
@@ -8,7 +9,7 @@ use Rattle.int_ring.proofs.Ring.{ring, reads}
 use Rattle.plant_model.specs.declared.limits.TheConstants.{MOST_RING_POINTS}
 use Rattle.plant_model.specs.declared.thrust.Point.{Point}
 use Rattle.plant_model.specs.Rings.{cross, is_border, is_ring, is_round, origin, place_after, places, point_at, side}
-use Rattle.thrust_region.proofs.Runs.{walk}
+use Rattle.thrust_region.proofs.Runs.{after_inner, after_last, walk}
 use Rattle.thrust_region.proofs.Sectors.{all-range}
 use Rattle.thrust_region.proofs.Signs.{below_from_test, test_at_most}
 use Rattle.thrust_region.proofs.WedgeCounts.{AreTurning}
@@ -60,3 +61,74 @@ module _ (ring : List Point) (round : is_round ring ≡ true) (stops : ℕ → B
           AreTurning (point_at ring place ∷ map (point_at ring) (cond b [] (walk stops (length ring) (suc more) (place_after (length ring) place))))
       by_test true others = (tt, tt)
       by_test false others = (edge_test place there, others)
+
+-- ---- each point of a ring is on the left of each edge, and strictly where it is no end of it
+
+edge_from : (a b : Point) → side a b a ≡ pos 0
+edge_from a b = ring (a.x ∷ a.y ∷ b.x ∷ b.y ∷ []) (search reads depth 40) refl
+
+edge_to : (a b : Point) → side a b b ≡ pos 0
+edge_to a b = ring (a.x ∷ a.y ∷ b.x ∷ b.y ∷ []) (search reads depth 40) refl
+
+abbrev side_at : List Point → ℕ → ℕ → ℤ
+side_at points edge place = side (point_at points edge) (point_at points (place_after (length points) edge)) (point_at points place)
+
+module _ (points : List Point) (round : is_round points ≡ true) (edge place : ℕ) (there : edge < length points) (here : place < length points) where
+  pub is_left : place ≢ edge → place ≢ place_after (length points) edge → pos 0 <ℤ side_at points edge place
+  is_left apart apart_too =
+      let border : is_border points edge ≡ true = edge_is_border points edge round there in
+      let lefts = (and_parts (int_lt (pos 0) (side (point_at points edge) (point_at points (place_after (length points) edge)) origin)) _ border).1 in
+      let test : (eqb place edge || eqb place (place_after (length points) edge) || int_lt (pos 0) (side_at points edge place)) ≡ true =
+      all-range (λ p. eqb p edge || eqb p (place_after (length points) edge) || int_lt (pos 0) (side_at points edge p)) 0 (length points) place lefts (omega arith) (omega arith) in
+      let no : eqb place edge ≡ false = grind (arith, nat_tests) in
+      let nor : eqb place (place_after (length points) edge) ≡ false = grind (arith, nat_tests) in
+      below_from_test (pos 0) (side_at points edge place) (rw (no, nor) at test)
+
+  pub at_least_left : pos 0 ≤ℤ side_at points edge place
+  at_least_left = by_tests (eqb place edge) (eqb place (place_after (length points) edge)) refl refl
+    where
+      by_tests : (p q : Bool) → eqb place edge ≡ p → eqb place (place_after (length points) edge) ≡ q → pos 0 ≤ℤ side_at points edge place
+      by_tests true q g h =
+          let same : place ≡ edge = eqb-true place edge g in
+          let zero_side = edge_from (point_at points edge) (point_at points (place_after (length points) edge)) in
+          rw same (omega (arith, linear))
+      by_tests false true g h =
+          let same : place ≡ place_after (length points) edge = eqb-true place (place_after (length points) edge) h in
+          let zero_side = edge_to (point_at points edge) (point_at points (place_after (length points) edge)) in
+          rw same (omega (arith, linear))
+      by_tests false false g h =
+          let left = is_left (grind (arith, nat_tests)) (grind (arith, nat_tests)) in
+          omega (arith, linear)
+
+-- ---- places after one are others
+
+pub next_is_other : (n place : ℕ) → 2 ≤ n → place < n → place_after n place ≢ place
+next_is_other n place two there = by_test (ltb (place + 1) n) refl
+  where
+    by_test : (b : Bool) → ltb (place + 1) n ≡ b → place_after n place ≢ place
+    by_test true is = let next = after_inner n place (ltb-true (place + 1) n is) in omega arith
+    by_test false is =
+        let last : place + 1 ≡ n = grind (arith, nat_tests) in
+        let next = after_last n place last in
+        omega arith
+
+pub second_is_other : (n place : ℕ) → 3 ≤ n → place < n → place_after n (place_after n place) ≢ place
+second_is_other n place three there = by_test (ltb (place + 1) n) (ltb (place + 2) n) refl refl
+  where
+    by_test : (b d : Bool) → ltb (place + 1) n ≡ b → ltb (place + 2) n ≡ d → place_after n (place_after n place) ≢ place
+    by_test true true is on =
+        let next : place_after n place ≡ place + 1 = after_inner n place (ltb-true (place + 1) n is) in
+        let inside = ltb-true (place + 2) n on in
+        let second : place_after n (place + 1) ≡ place + 1 + 1 = after_inner n (place + 1) (omega arith) in
+        rw next (omega arith)
+    by_test true false is on =
+        let next : place_after n place ≡ place + 1 = after_inner n place (ltb-true (place + 1) n is) in
+        let inside = ltb-true (place + 1) n is in
+        let end : n ≤ place + 2 = grind (arith, nat_tests) in
+        let second : place_after n (place + 1) ≡ 0 = after_last n (place + 1) (omega arith) in
+        rw next (omega arith)
+    by_test false d is on =
+        let last : place + 1 ≡ n = grind (arith, nat_tests) in
+        let next : place_after n place ≡ 0 = after_last n place last in
+        let second : place_after n 0 ≡ 0 + 1 = after_inner n 0 (omega arith) in
+        rw next (omega arith)

@@ -127,10 +127,10 @@ walk_length stops n (suc steps) (suc more) place last fits there end at stop =
 -- ---- runs end before the next end of a sector
 
 -- the edge ends at the place
-EdgeIsBefore : ℕ → ℕ → ℕ → Type 0
+pub EdgeIsBefore : ℕ → ℕ → ℕ → Type 0
 EdgeIsBefore n edge place = ((edge + 1 ≡ place) × (place < n)) ⊎ ((place ≡ 0) × (edge + 1 ≡ n))
 
-edge_is_before : (n place : ℕ) → place < n → (edge : ℕ) × EdgeIsBefore n edge place
+pub edge_is_before : (n place : ℕ) → place < n → (edge : ℕ) × EdgeIsBefore n edge place
 unfolding EdgeIsBefore
 edge_is_before n zero there = (n - 1, inr (refl, omega arith))
 edge_is_before n (suc place) there = (place, inl (omega arith, there))
@@ -155,6 +155,43 @@ covers_last n edge from to h k apart before =
     by_cases_round (inl a) (inr b) e f = omega arith
     by_cases_round (inr a) (inl b) e f = omega arith
     by_cases_round (inr a) (inr b) e f = omega arith
+
+-- one edge more to the place after
+pub edges_step : (n from edge place : ℕ) → from < n → EdgeIsBefore n edge place → 0 < edges_between n from place → edges_between n from edge + 1 ≡ edges_between n from place
+unfolding EdgeIsBefore
+edges_step n from edge place h before some =
+    by_cases (edges_are n from edge h (elim before [ inl e ↦ omega arith | inr e ↦ omega arith ])) (edges_are n from place h (elim before [ inl e ↦ omega arith | inr e ↦ omega arith ])) before
+  where
+    by_cases : EdgesAre n from edge → EdgesAre n from place → EdgeIsBefore n edge place → edges_between n from edge + 1 ≡ edges_between n from place
+    by_cases (inl a) (inl b) (inl c) = omega arith
+    by_cases (inl a) (inl b) (inr c) = omega arith
+    by_cases (inl a) (inr b) (inl c) = omega arith
+    by_cases (inl a) (inr b) (inr c) = omega arith
+    by_cases (inr a) (inl b) (inl c) = omega arith
+    by_cases (inr a) (inl b) (inr c) = omega arith
+    by_cases (inr a) (inr b) (inl c) = omega arith
+    by_cases (inr a) (inr b) (inr c) = omega arith
+
+pub edge_to_next : (n place : ℕ) → place < n → EdgeIsBefore n place (place_after n place)
+unfolding EdgeIsBefore
+edge_to_next n place there = by_test (ltb (place + 1) n) refl
+  where
+    by_test : (b : Bool) → ltb (place + 1) n ≡ b → EdgeIsBefore n place (place_after n place)
+    by_test true is =
+        let below = ltb-true (place + 1) n is in
+        let next = after_inner n place below in
+        inl (omega arith, omega arith)
+    by_test false is =
+        let last : place + 1 ≡ n = grind (arith, nat_tests) in
+        inr (after_last n place last, last)
+
+-- no edge is between a place and itself
+pub edges_none : (n from place : ℕ) → from < n → place < n → edges_between n from place ≡ 0 → from ≡ place
+edges_none n from place h k none = by_cases (edges_are n from place h k)
+  where
+    by_cases : EdgesAre n from place → from ≡ place
+    by_cases (inl a) = omega arith
+    by_cases (inr a) = omega arith
 
 -- ---- sectors of a ring
 
@@ -249,7 +286,7 @@ module _ (n : ℕ) (sectors : List Sector) (valid : are_sectors n sectors ≡ tr
   begins s one = one.any (λ r. r.from == s.from) (eq-eqb s.from s.from refl)
 
   -- a sector that ends elsewhere doesn't cover the edge before the end of one
-  not_covered : (edge place next : ℕ) → EdgeIsBefore n edge place → place < n → place ≢ next → (a : EndsHere n sectors place) (b : EndsHere n sectors next) →
+  pub not_covered : (edge place next : ℕ) → EdgeIsBefore n edge place → place < n → place ≢ next → (a : EndsHere n sectors place) (b : EndsHere n sectors next) →
       edges_between n b.sector.from edge < edges_between n b.sector.from next → ⊥
   unfolding EdgeIsBefore
   not_covered edge place next before there apart a b covers =

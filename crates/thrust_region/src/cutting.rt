@@ -147,7 +147,6 @@ pub fn cut_ring(ring: &Ring, sectors: &[Sector]) -> Pieces
 
 #[cfg(test)]
 mod tests {
-
     use super::*;
 
     const AHEAD: Point = Point { x: 400, y: 0 };

@@ -3,10 +3,12 @@
 #![tactic(auto)]
 
 mod cutting;
+mod exact;
 mod piece;
 mod regions;
 mod scaling;
 
 pub use cutting::cut_ring;
+pub use exact::pieces_are_exact;
 pub use regions::{Chosen, Regions, choice, choices};
 pub use scaling::scaled;
