@@ -8,10 +8,11 @@ use Rattle.int_ring.proofs.Order.{cancel_le_left, cancel_lt_left, mul_le_left, m
 use Rattle.plant_model.specs.Lies.{LiesIn, weighted_x, weighted_y}
 use Rattle.plant_model.specs.declared.thrust.Point.{Point}
 use Rattle.plant_model.specs.declared.thrust.Thrust.{Thrust}
+use Rattle.wrench_geometry.specs.Chosen.{images_of}
 use Rattle.wrench_geometry.specs.declared.vector.Vec3.{Vec3}
 use Rattle.wrench_geometry.specs.Vectors.{difference_of, dot_of, greatest_of, scaled_by, sum_of, support_of, zero_vector}
 use Rattle.wrench_geometry.specs.Wrenches.{image_of}
-use Rattle.certificate.specs.Outcomes.{EachStands, images_of, total_of, without}
+use Rattle.certificate.specs.Outcomes.{EachStands, total_of, without}
 use Rattle.certificate.specs.Sides.{place_of}
 use Rattle.certificate.proofs.Among.{Among}
 use Rattle.certificate.proofs.Hulls.{weighted_at_most}

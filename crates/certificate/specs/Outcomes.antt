@@ -6,6 +6,7 @@ use Rattle.plant_model.specs.declared.thrust.Point.{Point}
 use Rattle.plant_model.specs.declared.thrust.Thrust.{Thrust}
 use Rattle.plant_model.specs.declared.thrust.Thrusts.{Thrusts}
 use Rattle.thrust_region.specs.Choices.{choice_of, choices_of}
+use Rattle.wrench_geometry.specs.Chosen.{images_of}
 use Rattle.wrench_geometry.specs.declared.vector.Vec3.{Vec3}
 use Rattle.wrench_geometry.specs.Vectors.{difference_of, dot_of, scaled_by, sum_of, support_of, zero_vector}
 use Rattle.wrench_geometry.specs.Wrenches.{image_of}
@@ -33,11 +34,6 @@ pub record IsOneEach (question : Question) : Type 0 where
 abbrev pub total_of : List Point → List Point → Vec3
 total_of (lever ∷ levers) (thrust ∷ thrusts) = sum_of (image_of lever thrust) (total_of levers thrusts)
 total_of _ _ = zero_vector
-
--- the images of each piece's points at its lever
-abbrev pub images_of : List Point → List (List Point) → List (List Vec3)
-images_of (lever ∷ levers) (piece ∷ pieces) = map (image_of lever) piece ∷ images_of levers pieces
-images_of _ _ = []
 
 -- what is left of a thrust over q without a fixed thrust
 abbrev pub without : ℤ → Point → Thrust → Thrust
