@@ -3,6 +3,7 @@
 //! memory.
 #![tactic(auto)]
 
+mod chosen;
 mod cut;
 mod lever;
 mod reach;
@@ -10,6 +11,7 @@ mod sums;
 mod vector;
 mod vertices;
 
+pub use chosen::sums_of;
 pub use cut::{CUT_PARTS_BELOW, Cut};
 pub use lever::{MOST_TURN, image};
 pub use reach::{greatest, support};
