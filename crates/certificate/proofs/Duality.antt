@@ -1,10 +1,10 @@
 -- Thrusts in pieces are no farther along any direction than the pieces' support.
-use Rattle.std.proofs.Common.{◌≡◌, ◌⊎◌, inl, inr, ℕ, ℤ, pos, ◌+ℤ◌, ◌-ℤ◌, ◌*ℤ◌, neg_ℤ, ◌≤ℤ◌, ◌<ℤ◌, List, [], ◌∷◌, length, map, refl, ap, ap₂, sym, ◌∙◌, arith, subst, ◌+◌}
+use Rattle.std.proofs.Common.{◌≡◌, ℕ, ℤ, pos, ◌+ℤ◌, ◌-ℤ◌, ◌*ℤ◌, ◌≤ℤ◌, ◌<ℤ◌, List, [], ◌∷◌, length, map, refl, ap, ap₂, ◌∙◌, arith, subst}
 use Rattle.std.specs.Prelude.{sum}
 use Rattle.std.proofs.lemmas.Int.{ints}
-use Rattle.int_ring.proofs.Laws.{linear, mul_zero}
-use Rattle.int_ring.proofs.Ring.{ring, ring_with, reads}
-use Rattle.int_ring.proofs.Order.{cancel_le_left, cancel_lt_left, mul_le_left, mul_lt_left}
+use Rattle.int_ring.proofs.Laws.{linear}
+use Rattle.int_ring.proofs.Ring.{ring, reads}
+use Rattle.int_ring.proofs.Order.{cancel_le_left, mul_le_left, mul_lt_left}
 use Rattle.plant_model.specs.Lies.{LiesIn, weighted_x, weighted_y}
 use Rattle.plant_model.specs.declared.thrust.Point.{Point}
 use Rattle.plant_model.specs.declared.thrust.Thrust.{Thrust}
@@ -14,7 +14,6 @@ use Rattle.wrench_geometry.specs.Vectors.{difference_of, dot_of, greatest_of, sc
 use Rattle.wrench_geometry.specs.Wrenches.{image_of}
 use Rattle.certificate.specs.Outcomes.{EachStands, total_of, without}
 use Rattle.certificate.specs.Sides.{place_of}
-use Rattle.certificate.proofs.Among.{Among}
 use Rattle.certificate.proofs.Hulls.{weighted_at_most}
 use Rattle.certificate.proofs.Supports.{greatest_at_least, greatest_from_0, support_cons}
 

@@ -4,7 +4,8 @@ ghost use Rattle.std.specs.Bool.{OnTrue};
 ghost use Rattle.plant_model.specs.Lies.{LiesIn};
 ghost use Rattle.plant_model.specs.Numbers.{IsWithin};
 ghost use Rattle.plant_model.specs.Rings.{cross, dot};
-ghost use Rattle.certificate.specs.Sides.{IsInTriangle, IsNear, IsNextTo, IsOnWay, IsReached, place_of};
+ghost use Rattle.certificate.specs.Sides.{IsInTriangle, IsNear, IsNextTo, IsOnWay};
+ghost use Rattle.certificate.specs.Sides.{IsReached, place_of};
 
 use plant_model::thrust::{Piece, Point, Thrust};
 

@@ -1,4 +1,4 @@
-use Rattle.std.proofs.Common.{◌≡◌, ◌∙◌, sym, arith}
+use Rattle.std.proofs.Common.{◌∙◌, arith}
 use Rattle.certificate.specs.declared.outcome.Place.TheVariants.{Denominator, Choice, ThrustCount, Thruster, Sum, Cut}
 use Rattle.certificate.proofs.Choosing.{length-choice, stands_in_choice, stands_in_some}
 use Rattle.certificate.proofs.Duality.{not_separated}
