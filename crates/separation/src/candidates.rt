@@ -1,9 +1,9 @@
 //! The search for a least cut among the normals of each two directions.
 ghost use Rattle.std.specs.Prelude.{◌≡◌, ◌≢◌, pos, ◌*ℤ◌, ◌≤ℤ◌, ◌⊎◌, All, IfNone, IfSome};
 ghost use Rattle.wrench_geometry.specs.Cuts.{IsCut, IsLeastCut};
-ghost use Rattle.wrench_geometry.specs.Vectors.{cross_of, dot_of, opposite_of, zero_vector};
+ghost use Rattle.wrench_geometry.specs.Vectors.{dot_of, opposite_of, zero_vector};
 ghost use Rattle.wrench_geometry.specs.Wrenches.{IsDemandVector};
-ghost use Rattle.separation.specs.Candidates.{IsAtMost, IsAtMostAlong, IsNormal};
+ghost use Rattle.separation.specs.Candidates.{IsAtMost, IsAtMostAlong, IsAtMostWith, IsNormal};
 ghost use Rattle.separation.specs.Directions.{IsDirection};
 
 use crate::directions::directions_of;
@@ -65,7 +65,7 @@ fn least_with(sums: &Sums, d: Vec3, cut: Cut, direction: Vec3, others: &[Vec3]) 
     requires others { All IsDirection others.now }
     ensures cut { IsCut sums.now d result }
     ensures at_most { IsAtMost result cut }
-    ensures at_most_others { All (λ other. IsAtMostAlong sums.now d result (cross_of direction other)) others.now }
+    ensures at_most_others { IsAtMostWith sums.now d result direction others.now }
 {
     let mut least = cut;
     for other in others {

@@ -1,4 +1,5 @@
-//! The least cut: of all whole directions the one in which a demand passes what the thrusters reach together the soonest.
+//! The least cut: of all whole directions the one in which a demand passes the soonest what the thrusters reach
+//! together. Nothing here overflows, and nothing takes memory.
 #![tactic(auto)]
 
 mod candidates;
