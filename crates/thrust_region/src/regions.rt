@@ -48,7 +48,8 @@ pub fn choices(regions: &Regions) -> u32
 /// thruster varying fastest.
 pub fn choice(regions: &Regions, k: u32) -> Chosen
     requires { k < choices_of (map all_points regions.now.list.items) }
-    ensures pieces { map points_of result.pieces.items ≡ choice_of (map all_points regions.now.list.items) k }
+    ensures pieces { map points_of result.pieces.items
+        ≡ choice_of (map all_points regions.now.list.items) k }
     ensures one_each { length result.pieces.items ≡ length regions.now.list.items }
 {
     let mut pieces = ArrayVec::new();
