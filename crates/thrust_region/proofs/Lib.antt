@@ -7,6 +7,7 @@ pub mod Lists
 pub mod Parts
 pub mod LiesParts
 pub mod Triangles
+pub mod PiecePoints
 pub mod Plane
 pub mod Reach
 pub mod Rings

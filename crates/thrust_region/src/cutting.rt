@@ -62,7 +62,8 @@ fn first_wedge(run: &[Point]) -> Piece
 /// Adds the wedges of the run, of which each begins where the one before ends.
 fn cut_run(run: &[Point], pieces: &mut Pieces)
     requires points { 0 < length run.now }
-    requires room { length pieces.old.list.items + length (wedges (length run.now) run.now) ≤ MOST_PIECES }
+    requires room { length pieces.old.list.items + length (wedges (length run.now) run.now)
+        ≤ MOST_PIECES }
     ensures { all_points pieces.new ≡ all_points pieces.old ++ wedges (length run.now) run.now }
 {
     let mut rest = run;
@@ -81,7 +82,8 @@ fn cut_run(run: &[Point], pieces: &mut Pieces)
 fn run_from(ring: &[Point], sectors: &[Sector], start: usize) -> Run
     requires place { start < length ring.now }
     requires fits { length ring.now ≤ MOST_RING_POINTS }
-    ensures { result.items ≡ map (point_at ring.now) (run_from (length ring.now) sectors.now start) }
+    ensures { result.items
+        ≡ map (point_at ring.now) (run_from (length ring.now) sectors.now start) }
 {
     let mut run = Run::new();
     let mut place = start;
