@@ -5,3 +5,4 @@ pub mod Reach
 pub mod Supports
 pub mod Duality
 pub mod Choosing
+pub mod Places

@@ -2,11 +2,14 @@
 use Rattle.std.specs.Prelude.{◌≡◌, ℕ, ◌<◌, ℤ, pos, ◌-ℤ◌, ◌*ℤ◌, ◌≤ℤ◌, ◌<ℤ◌, List, [], ◌∷◌, length, map, slice_index_or, Any, ◌⊎◌, ⊤}
 use Rattle.plant_model.specs.Lies.{LiesIn}
 use Rattle.plant_model.specs.Rings.{origin}
+use Rattle.plant_model.specs.declared.plant.Parts.{Parts}
 use Rattle.plant_model.specs.declared.thrust.Point.{Point}
 use Rattle.plant_model.specs.declared.thrust.Thrust.{Thrust}
 use Rattle.plant_model.specs.declared.thrust.Thrusts.{Thrusts}
 use Rattle.thrust_region.specs.Choices.{choice_of, choices_of}
-use Rattle.wrench_geometry.specs.Chosen.{images_of}
+use Rattle.thrust_region.specs.Pieces.{all_points}
+use Rattle.thrust_region.specs.declared.regions.Regions.{Regions}
+use Rattle.wrench_geometry.specs.Chosen.{images_of, levers_of}
 use Rattle.wrench_geometry.specs.declared.vector.Vec3.{Vec3}
 use Rattle.wrench_geometry.specs.Vectors.{difference_of, dot_of, scaled_by, sum_of, support_of, zero_vector}
 use Rattle.wrench_geometry.specs.Wrenches.{image_of}
@@ -24,6 +27,15 @@ pub record Question : Type 0 where
   pub regions : List (List (List Point))
   pub fixed : List Point
   pub demand : Vec3
+
+-- whether a plant with these regions left meets a demand
+abbrev pub question_of : Parts → Regions → Vec3 → Question
+question_of plant regions demand = record {
+  levers = levers_of plant;
+  regions = map all_points regions.list.items;
+  fixed = regions.fixed.items;
+  demand = demand;
+}
 
 -- there is a region and a fixed thrust for each lever
 pub record IsOneEach (question : Question) : Type 0 where
@@ -61,6 +73,10 @@ pub record IsFeasible (question : Question) : Type 0 where
   pub q : ℤ
   pub thrusts : List Thrust
   pub meets : Meets question q thrusts
+
+-- the vector is the demand less what the fixed thrusts give
+abbrev pub IsAhead : Question → Vec3 → Type 0
+IsAhead question ahead = ahead ≡ difference_of question.demand (total_of question.levers question.fixed)
 
 -- along w the demand, less the fixed thrusts, is farther than each sum of thrusts in the pieces
 abbrev pub Separates : Question → List (List Point) → Vec3 → Type 0

@@ -4,9 +4,11 @@
 mod cut;
 mod hull;
 mod law;
+mod lost;
 mod outcome;
 
 pub use cut::check_cut;
 pub use hull::lies;
 pub use law::outcomes_tell;
+pub use lost::judge_lost;
 pub use outcome::{Cuts, Outcome, Place};
