@@ -29,10 +29,10 @@ returns-then-not-check_cut-clause-err c demand is =
     let short : FallShort levers regions c.args.ahead cuts.list.items k = subst (λ (l : List Vec3). FallShort levers regions c.args.ahead l k) value c.loop-k.invariant in
     fails_at_cut question cuts k count (omega (arith, c.choices-count.ensures.product)) (separate_below question cuts c.args.ahead k is short)
     (λ separates.
-        let farther : support_of (images_of levers (choice_of regions k)) w <ℤ dot_of w c.args.ahead = subst (λ (v : Vec3). support_of (images_of levers (choice_of regions k)) w <ℤ dot_of w v) (sym is) separates in
-        let here : support_of c.sums_of-sums.result w <ℤ dot_of w c.args.ahead = subst (λ (l : List (List Vec3)). support_of l w <ℤ dot_of w c.args.ahead) (sym sums) farther in
-        let taken = subst (λ (l : List Vec3). support_of c.sums_of-sums.result (get_or l k zero_vector) <ℤ dot_of (get_or l k zero_vector) c.args.ahead) (sym value) here in
-        let no = c.if-not-check_cut.ensures.1 taken in cc)
+    let farther : support_of (images_of levers (choice_of regions k)) w <ℤ dot_of w c.args.ahead = subst (λ (v : Vec3). support_of (images_of levers (choice_of regions k)) w <ℤ dot_of w v) (sym is) separates in
+    let here : support_of c.sums_of-sums.result w <ℤ dot_of w c.args.ahead = subst (λ (l : List (List Vec3)). support_of l w <ℤ dot_of w c.args.ahead) (sym sums) farther in
+    let taken = subst (λ (l : List Vec3). support_of c.sums_of-sums.result (get_or l k zero_vector) <ℤ dot_of (get_or l k zero_vector) c.args.ahead) (sym value) here in
+    let no = c.if-not-check_cut.ensures.1 taken in cc)
 
 pub returns-clause-ok : goal.returns-clause-ok
 returns-clause-ok c demand is =
