@@ -9,5 +9,6 @@ pub left-moved : (bytes into copied : List ℕ) (given n : ℕ)
     → drop given bytes ≡ take n (copied ++ drop n into) ++ drop (given + n) bytes
 left-moved bytes into copied given n is fits =
     let front : copied ≡ take n (drop given bytes) = rw take_rest at is in
-    let buffer : take n (copied ++ drop n into) ≡ take n (drop given bytes) = take_at copied (drop n into) n fits ∙ front in
+    let buffer : take n (copied ++ drop n into) ≡ take n (drop given bytes) =
+    take_at copied (drop n into) n fits ∙ front in
     rw buffer (rw (← drop-drop n given bytes) (sym (take-append-drop n (drop given bytes))))

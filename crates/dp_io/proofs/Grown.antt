@@ -1,13 +1,9 @@
 -- What was taken grows by one piece after another.
-use Rattle.std.proofs.Common.{◌≡◌, ℕ, ◌+◌, ◌-◌, List, [], ◌++◌, length, take, drop, Option, Some, None, refl, ap, sym, append_assoc, append-nil, ◌∙◌}
+use Rattle.std.proofs.Common.{◌≡◌, ℕ, ◌+◌, ◌-◌, List, [], ◌++◌, length, take, drop, Option, Some}
+use Rattle.std.proofs.Common.{None, refl, ap, sym, append_assoc, append-nil, ◌∙◌}
 use Rattle.std.proofs.Math.Seq.{take-add}
 use Rattle.std.proofs.lemmas.List.{take_rest}
 use Rattle.dp_io.specs.Streams.{Grew}
-
--- nothing more was taken
-pub Grew-none : (taken : Option (List ℕ)) → Grew taken taken []
-Grew-none (Some before) = ap Some (sym (append-nil before))
-Grew-none None = refl
 
 -- one piece, and then another
 Grew-some : (before p q : List ℕ) (b c : Option (List ℕ))
@@ -17,7 +13,8 @@ Grew-some before p q (Some more) c is next =
     next ∙ ap Some (ap (λ taken. taken ++ q) grown ∙ append_assoc before p q)
 Grew-some before p q None c is next = cc
 
-pub Grew-append : (a b c : Option (List ℕ)) (p q : List ℕ) → Grew a b p → Grew b c q → Grew a c (p ++ q)
+pub Grew-append : (a b c : Option (List ℕ)) (p q : List ℕ) → Grew a b p → Grew b c q
+    → Grew a c (p ++ q)
 Grew-append (Some before) b c p q first next = Grew-some before p q b c first next
 Grew-append None (Some more) c p q first next = cc
 Grew-append None None c p q first next = next

@@ -1,5 +1,6 @@
 //! A source and a sink in memory, which fail at the calls that they are told to.
-ghost use Rattle.std.specs.Prelude.{◌≡◌, ◌-◌, ◌<◌, ◌≤◌, ◌↔◌, ◌⊎◌, [], length, take, Contains, IsTrue, IsErr, IfOk, OnOk, OnErr, Some};
+ghost use Rattle.std.specs.Prelude.{◌≡◌, ◌-◌, ◌<◌, ◌≤◌, ◌↔◌, ◌⊎◌, [], length, take, Contains};
+ghost use Rattle.std.specs.Prelude.{IsTrue, IsErr, IfOk, OnOk, OnErr, Some};
 ghost use Rattle.std.proofs.Common.{min};
 ghost use Rattle.dp_io.specs.Streams.{Rose, Gave, Grew, one_more};
 
@@ -179,7 +180,8 @@ impl Sink for MemorySink {
 
     ghost faults = { λ s. s.faults };
 
-    /// Takes the least of two: the piece and what there is still room for. It takes no memory.
+    /// Takes the least of two: the piece and what there is still room for. Its signature has no allocator, so it
+    /// takes no memory.
     fn write(&mut self, piece: &[u8]) -> Result<usize, Failed>
         requires { 0 < length piece.now }
         ensures some { IfOk result (λ n. 0 < n) }

@@ -1,5 +1,6 @@
 //! The traits of sources and sinks, and the call that hands a whole piece over.
-ghost use Rattle.std.specs.Prelude.{◌≡◌, ℕ, ◌<◌, ◌≤◌, List, [], length, take, Option, IfSome, IfOk, OnOk, OnErr};
+ghost use Rattle.std.specs.Prelude.{◌≡◌, ℕ, ◌<◌, ◌≤◌, List, [], length, take, Option, IfSome, IfOk};
+ghost use Rattle.std.specs.Prelude.{OnOk, OnErr};
 ghost use Rattle.dp_io.specs.Streams.{Rose, Gave, Grew, one_more};
 
 /// A read or a write failed. The object counted it.
@@ -28,7 +29,8 @@ pub trait Source {
     fn read(&mut self, into: &mut [u8]) -> Result<usize, Failed>
         ensures within { IfOk result (λ n. n ≤ length into.old) }
         ensures moved { IfOk result (λ n. Gave (left self.old) (left self.new) (take n into.new)) }
-        ensures end { result ≡ Ok 0 → 0 < length into.old → IfSome (left self.old) (λ bytes. bytes ≡ []) }
+        ensures end { result ≡ Ok 0 → 0 < length into.old
+            → IfSome (left self.old) (λ bytes. bytes ≡ []) }
         ensures kept { OnErr result (left self.new ≡ left self.old) }
         ensures failed { OnErr result (Rose (faults self.old) (faults self.new)) }
         ensures counted { faults self.old ≤ faults self.new };
@@ -57,7 +59,8 @@ pub trait Sink {
 /// Hands the piece over until all of it is taken. At `Failed` a prefix of it was taken that isn't the whole.
 pub fn send_all<S: Sink>(sink: &mut S, piece: &[u8]) -> Result<(), Failed>
     ensures whole { OnOk result (Grew (S.taken sink.old) (S.taken sink.new) piece.now) }
-    ensures part { OnErr result ((n : ℕ) × (n < length piece.now) × Grew (S.taken sink.old) (S.taken sink.new) (take n piece.now)) }
+    ensures part { OnErr result ((n : ℕ) × (n < length piece.now)
+        × Grew (S.taken sink.old) (S.taken sink.new) (take n piece.now)) }
     ensures failed { OnErr result (Rose (S.faults sink.old) (S.faults sink.new)) }
     ensures counted { S.faults sink.old ≤ S.faults sink.new }
 {

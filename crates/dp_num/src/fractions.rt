@@ -1,6 +1,7 @@
 //! Fractions of whole numbers that are at least 0.
 ghost use Rattle.std.specs.Prelude.{◌≡◌, pos, ◌≤ℤ◌, ◌<ℤ◌, ◌⊎◌};
-ghost use Rattle.dp_num.specs.Fractions.{IsGreatestCommonDivisor, IsInLowestTerms, SameQuotient, order_of_quotients};
+ghost use Rattle.dp_num.specs.Fractions.{IsGreatestCommonDivisor, IsInLowestTerms, SameQuotient};
+ghost use Rattle.dp_num.specs.Fractions.{order_of_quotients};
 
 use std::cmp::Ordering;
 

@@ -1,4 +1,5 @@
-//! Exact arithmetic on whole numbers and fractions. Nothing here overflows, and nothing takes memory.
+//! Exact arithmetic on whole numbers and fractions. Nothing here overflows, and no call has an allocator, so none
+//! takes memory.
 #![tactic(auto)]
 
 mod fractions;

@@ -37,21 +37,25 @@ divides_number g (pos a) h = h
 divides_number g (negsuc a) h = (neg_ℤ h.0, neg_mul h.0 g ∙ ap neg_ℤ h.1)
 
 -- the greatest common divisor of sizes divides the numbers
-pub three_divided : (g f a b c : ℤ) (w : Vec3) → IsGreatestCommonDivisor a b f → IsGreatestCommonDivisor f c g → a ≡ pos (unsigned_abs w.x) → b ≡ pos (unsigned_abs w.y) → c ≡ pos (unsigned_abs w.z) → DividesEach g w
+pub three_divided : (g f a b c : ℤ) (w : Vec3) → IsGreatestCommonDivisor a b f →
+    IsGreatestCommonDivisor f c g → a ≡ pos (unsigned_abs w.x) → b ≡ pos (unsigned_abs w.y) →
+    c ≡ pos (unsigned_abs w.z) → DividesEach g w
 three_divided g f a b c w h k p q r = record {
   x = divides_number g w.x (rw p at (divides_through g f a k.divides_first h.divides_first));
   y = divides_number g w.y (rw q at (divides_through g f b k.divides_first h.divides_second));
   z = divides_number g w.z (rw r at k.divides_second);
 }
 
-pub two_divided : (g b c : ℤ) (w : Vec3) → IsGreatestCommonDivisor b c g → w.x ≡ pos 0 → b ≡ pos (unsigned_abs w.y) → c ≡ pos (unsigned_abs w.z) → DividesEach g w
+pub two_divided : (g b c : ℤ) (w : Vec3) → IsGreatestCommonDivisor b c g → w.x ≡ pos 0 →
+    b ≡ pos (unsigned_abs w.y) → c ≡ pos (unsigned_abs w.z) → DividesEach g w
 two_divided g b c w k o q r = record {
   x = rw o (divides_zero g);
   y = divides_number g w.y (rw q at k.divides_first);
   z = divides_number g w.z (rw r at k.divides_second);
 }
 
-pub one_divided : (g : ℤ) (w : Vec3) → w.x ≡ pos 0 → w.y ≡ pos 0 → g ≡ pos (unsigned_abs w.z) → DividesEach g w
+pub one_divided : (g : ℤ) (w : Vec3) → w.x ≡ pos 0 → w.y ≡ pos 0 → g ≡ pos (unsigned_abs w.z) →
+    DividesEach g w
 one_divided g w o p r = record {
   x = rw o (divides_zero g);
   y = rw p (divides_zero g);
@@ -59,7 +63,8 @@ one_divided g w o p r = record {
 }
 
 -- an exact quotient is within the bounds of the number
-pub quotient_within : (m x g : ℤ) → Divides g x → pos 1 ≤ℤ g → IsWithin m x → IsWithin m (int_div_euclid x g)
+pub quotient_within : (m x g : ℤ) → Divides g x → pos 1 ≤ℤ g → IsWithin m x →
+    IsWithin m (int_div_euclid x g)
 quotient_within m x g h p w = by_lt_z (int_div_euclid x g) (pos 0) below above
   where
     is : x ≡ g *ℤ int_div_euclid x g
@@ -69,7 +74,8 @@ quotient_within m x g h p w = by_lt_z (int_div_euclid x g) (pos 0) below above
     below l =
         let q = int_div_euclid x g in
         let more = mul_nonneg (g -ℤ pos 1) (neg_ℤ q) (omega (arith, ints)) (omega (arith, ints)) in
-        let parts : (g -ℤ pos 1) *ℤ neg_ℤ q ≡ q -ℤ g *ℤ q = ring (g ∷ q ∷ []) (search reads depth 40) refl in
+        let parts : (g -ℤ pos 1) *ℤ neg_ℤ q ≡ q -ℤ g *ℤ q =
+        ring (g ∷ q ∷ []) (search reads depth 40) refl in
         let low = w.low in
         let high = w.high in
         record { low = omega (arith, linear, is, more, parts); high = omega (arith, linear) }
@@ -78,7 +84,8 @@ quotient_within m x g h p w = by_lt_z (int_div_euclid x g) (pos 0) below above
     above l =
         let q = int_div_euclid x g in
         let more = mul_nonneg (g -ℤ pos 1) q (omega (arith, ints)) l in
-        let parts : (g -ℤ pos 1) *ℤ q ≡ g *ℤ q -ℤ q = ring (g ∷ q ∷ []) (search reads depth 40) refl in
+        let parts : (g -ℤ pos 1) *ℤ q ≡ g *ℤ q -ℤ q =
+        ring (g ∷ q ∷ []) (search reads depth 40) refl in
         let low = w.low in
         let high = w.high in
         record { low = omega (arith, linear); high = omega (arith, linear, is, more, parts) }

@@ -1,4 +1,5 @@
--- Why weights at the quotient of a cut show that the cut is least, and why shares by Cramer's rule are such weights.
+-- Why weights at the quotient of a cut show that the cut is least, and why shares by Cramer's rule
+-- are such weights.
 use Rattle.std.proofs.Common.{◌≡◌, ℕ, zero, suc, ◌<◌, ℤ, pos, ◌+ℤ◌, ◌*ℤ◌, ◌≤ℤ◌, ◌<ℤ◌, List, [], ◌∷◌, All, fold, ap, ap₂, sym, ◌∙◌, refl, arith, subst}
 use Rattle.std.specs.List.{AllZip}
 use Rattle.std.proofs.lemmas.Int.{ints}
@@ -28,54 +29,78 @@ dot-zero w = ring (w.x ∷ w.y ∷ w.z ∷ []) (search reads depth 40) refl
 
 -- ---- a mean of points is no farther along u than the farthest point
 
-one_more : (a k b p r s v : ℤ) → pos 0 ≤ℤ k → p ≤ℤ b → v ≡ k *ℤ p +ℤ r → ((a +ℤ k) *ℤ b +ℤ r) ≤ℤ s → (a *ℤ b +ℤ v) ≤ℤ s
+one_more : (a k b p r s v : ℤ) → pos 0 ≤ℤ k → p ≤ℤ b → v ≡ k *ℤ p +ℤ r → ((a +ℤ k) *ℤ b +ℤ r) ≤ℤ s →
+    (a *ℤ b +ℤ v) ≤ℤ s
 one_more a k b p r s v h l e m =
     let part = mul_le_left p b k l h in
-    let both : (a +ℤ k) *ℤ b ≡ a *ℤ b +ℤ k *ℤ b = ring (a ∷ k ∷ b ∷ []) (search reads depth 40) refl in
+    let both : (a +ℤ k) *ℤ b ≡ a *ℤ b +ℤ k *ℤ b = ring (a ∷ k ∷ b ∷ []) (search reads depth 40) refl
+    in
     omega (arith, linear, part, both)
 
-list_at_most : (u : Vec3) (b a : ℤ) (images : List Vec3) (weights : List ℤ) → pos 0 ≤ℤ b → All (λ v. dot_of u v ≤ℤ b) images → All (λ k. pos 0 ≤ℤ k) weights →
+list_at_most : (u : Vec3) (b a : ℤ) (images : List Vec3) (weights : List ℤ) → pos 0 ≤ℤ b →
+    All (λ v. dot_of u v ≤ℤ b) images → All (λ k. pos 0 ≤ℤ k) weights →
     (a *ℤ b +ℤ dot_of u (weighted weights images)) ≤ℤ (fold ◌+ℤ◌ a weights *ℤ b)
 list_at_most u b a images [] h p k = omega (arith, linear, dot-zero u)
-list_at_most u b a [] (w ∷ weights) h p k = omega (arith, linear, dot-zero u, mul_le_right a (fold ◌+ℤ◌ a (w ∷ weights)) b (start_at_most a (w ∷ weights) k) h)
+list_at_most u b a [] (w ∷ weights) h p k =
+    omega (
+      arith,
+      linear,
+      dot-zero u,
+      mul_le_right a (fold ◌+ℤ◌ a (w ∷ weights)) b
+          (start_at_most a (w ∷ weights) k) h,
+    )
 list_at_most u b a (v ∷ images) (w ∷ weights) h p k =
-    one_more a w b (dot_of u v) (dot_of u (weighted weights images)) _ _ (k 0 (pos 0) (omega arith)) (p 0 v (omega arith))
-    (dot-sum u (scaled_by w v) (weighted weights images) ∙ ap (λ (z : ℤ). z +ℤ dot_of u (weighted weights images)) (dot-scaled u w v))
-    (list_at_most u b (a +ℤ w) images weights h (λ i d q. p (suc i) d (omega arith)) (tail_from_0 w weights k))
+    one_more a w b (dot_of u v) (dot_of u (weighted weights images)) _ _ (k 0 (pos 0) (omega arith))
+    (p 0 v (omega arith))
+    (dot-sum u (scaled_by w v) (weighted weights images)
+    ∙ ap (λ (z : ℤ). z +ℤ dot_of u (weighted weights images)) (dot-scaled u w v))
+    (list_at_most u b (a +ℤ w) images weights h (λ i d q. p (suc i) d (omega arith))
+    (tail_from_0 w weights k))
 
-mean_at_most : (u : Vec3) (q : ℤ) (images : List Vec3) (weights : List ℤ) → AreWeights q images weights → dot_of u (weighted weights images) ≤ℤ (q *ℤ greatest_of u images)
+mean_at_most : (u : Vec3) (q : ℤ) (images : List Vec3) (weights : List ℤ) →
+    AreWeights q images weights → dot_of u (weighted weights images) ≤ℤ (q *ℤ greatest_of u images)
 mean_at_most u q images weights h =
     let g = greatest_of u images in
-    let most = list_at_most u g (pos 0) images weights (greatest_from_0 u images) (greatest_at_least u images) h.from_0 in
+    let most = list_at_most u g (pos 0) images weights (greatest_from_0 u images)
+    (greatest_at_least u images) h.from_0 in
     let nothing : pos 0 *ℤ g ≡ pos 0 = ring (g ∷ []) (search reads depth 40) refl in
     let all = ap (λ (z : ℤ). z *ℤ g) h.sum in
     omega (arith, linear, most, nothing, all)
 
-means_at_most : (u : Vec3) (q : ℤ) (lists : List (List Vec3)) (rows : List (ArrayVec ℤ)) → EachHasWeights q lists rows → dot_of u (weighted_sum rows lists) ≤ℤ (q *ℤ support_of lists u)
-means_at_most u q [] [] h = let nothing : q *ℤ pos 0 ≡ pos 0 = ring (q ∷ []) (search reads depth 40) refl in omega (arith, linear, dot-zero u, nothing)
+means_at_most : (u : Vec3) (q : ℤ) (lists : List (List Vec3)) (rows : List (ArrayVec ℤ)) →
+    EachHasWeights q lists rows → dot_of u (weighted_sum rows lists) ≤ℤ (q *ℤ support_of lists u)
+means_at_most u q [] [] h = let nothing : q *ℤ pos 0 ≡ pos 0 =
+    ring (q ∷ []) (search reads depth 40) refl in omega (arith, linear, dot-zero u, nothing)
 means_at_most u q [] (r ∷ rows) h = absurd h
 means_at_most u q (l ∷ lists) [] h = absurd h
 means_at_most u q (l ∷ lists) (r ∷ rows) h =
     let here = mean_at_most u q l r.items h.0 in
     let later = means_at_most u q lists rows h.1 in
     let parts = dot-sum u (weighted r.items l) (weighted_sum rows lists) in
-    let both : q *ℤ (greatest_of u l +ℤ support_of lists u) ≡ q *ℤ greatest_of u l +ℤ q *ℤ support_of lists u = ring (q ∷ greatest_of u l ∷ support_of lists u ∷ []) (search reads depth 40) refl in
+    let both : q *ℤ (greatest_of u l +ℤ support_of lists u) ≡ q *ℤ greatest_of u l +ℤ q *ℤ
+    support_of lists u = ring (q ∷ greatest_of u l ∷ support_of lists u ∷ [])
+    (search reads depth 40) refl in
     let all = ap (λ (z : ℤ). q *ℤ z) (support_cons u l lists) in
     omega (arith, linear, here, later, parts, both, all)
 
 -- ---- weights at a cut's quotient
 
 -- from t·b = q·a and t·p at most q·h: a·p at most h·b
-quotient_least : (q t a b p h : ℤ) → pos 1 ≤ℤ q → pos 1 ≤ℤ b → t *ℤ b ≡ q *ℤ a → (t *ℤ p) ≤ℤ (q *ℤ h) → (a *ℤ p) ≤ℤ (h *ℤ b)
+quotient_least : (q t a b p h : ℤ) → pos 1 ≤ℤ q → pos 1 ≤ℤ b → t *ℤ b ≡ q *ℤ a →
+    (t *ℤ p) ≤ℤ (q *ℤ h) → (a *ℤ p) ≤ℤ (h *ℤ b)
 quotient_least q t a b p h g k e m =
     let above : pos 0 ≤ℤ b = omega (arith, ints) in
     let times = mul_le_right (t *ℤ p) (q *ℤ h) b m above in
-    let left : q *ℤ (a *ℤ p) ≡ t *ℤ p *ℤ b = ring (q ∷ a ∷ p ∷ []) (search reads depth 40) refl ∙ ap (λ (z : ℤ). z *ℤ p) (sym e) ∙ ring (t ∷ p ∷ b ∷ []) (search reads depth 40) refl in
+    let left : q *ℤ (a *ℤ p) ≡ t *ℤ p *ℤ b = ring (q ∷ a ∷ p ∷ []) (search reads depth 40) refl
+    ∙ ap (λ (z : ℤ). z *ℤ p) (sym e) ∙ ring (t ∷ p ∷ b ∷ []) (search reads depth 40) refl in
     let right : q *ℤ (h *ℤ b) ≡ q *ℤ h *ℤ b = ring (q ∷ h ∷ b ∷ []) (search reads depth 40) refl in
-    cancel_le_left (a *ℤ p) (h *ℤ b) q (omega (arith, ints)) (omega (arith, linear, times, left, right))
+    cancel_le_left (a *ℤ p) (h *ℤ b) q (omega (arith, ints))
+    (omega (arith, linear, times, left, right))
 
-pub exit_is : (lists : List (List Vec3)) (d : Vec3) (e : ExitWeights) → IsCut lists d e.cut → pos 1 ≤ℤ e.q → e.q ≤ℤ MOST_WEIGHT → EachHasWeights e.q lists e.weights.items →
-    weighted_sum e.weights.items lists ≡ scaled_by e.t d → e.t *ℤ e.cut.bottom ≡ e.q *ℤ e.cut.top → IsExit lists d e
+pub exit_is : (lists : List (List Vec3)) (d : Vec3) (e : ExitWeights) → IsCut lists d e.cut →
+    pos 1 ≤ℤ e.q → e.q ≤ℤ MOST_WEIGHT → EachHasWeights e.q lists e.weights.items →
+    weighted_sum e.weights.items lists ≡ scaled_by e.t d → e.t *ℤ e.cut.bottom ≡ e.q *ℤ e.cut.top →
+    IsExit lists d e
 exit_is lists d e cut low high weights meets same = record {
   cut = record {
     bottom = cut.bottom;
@@ -83,7 +108,8 @@ exit_is lists d e cut low high weights meets same = record {
     bottom_from_1 = cut.bottom_from_1;
     bottom_below = cut.bottom_below;
     top_below = cut.top_below;
-    least = λ u p. quotient_least e.q e.t e.cut.top e.cut.bottom (dot_of u d) (support_of lists u) low cut.bottom_from_1 same (most u);
+    least = λ u p. quotient_least e.q e.t e.cut.top e.cut.bottom (dot_of u d)
+        (support_of lists u) low cut.bottom_from_1 same (most u);
   };
   q_from_1 = low;
   q_within = high;
@@ -100,23 +126,34 @@ exit_is lists d e cut low high weights meets same = record {
 
 -- ---- Cramer's rule
 
-cramer_x : (d a b c : Vec3) → det_of d b c *ℤ a.x +ℤ det_of d c a *ℤ b.x +ℤ det_of d a b *ℤ c.x ≡ det_of a b c *ℤ d.x
-cramer_x d a b c = ring (d.x ∷ d.y ∷ d.z ∷ a.x ∷ a.y ∷ a.z ∷ b.x ∷ b.y ∷ b.z ∷ c.x ∷ c.y ∷ c.z ∷ []) (search reads depth 40) refl
+cramer_x : (d a b c : Vec3) →
+    det_of d b c *ℤ a.x +ℤ det_of d c a *ℤ b.x +ℤ det_of d a b *ℤ c.x ≡ det_of a b c *ℤ d.x
+cramer_x d a b c = ring (d.x ∷ d.y ∷ d.z ∷ a.x ∷ a.y ∷ a.z ∷ b.x ∷ b.y ∷ b.z ∷ c.x ∷ c.y ∷ c.z ∷ [])
+    (search reads depth 40) refl
 
-cramer_y : (d a b c : Vec3) → det_of d b c *ℤ a.y +ℤ det_of d c a *ℤ b.y +ℤ det_of d a b *ℤ c.y ≡ det_of a b c *ℤ d.y
-cramer_y d a b c = ring (d.x ∷ d.y ∷ d.z ∷ a.x ∷ a.y ∷ a.z ∷ b.x ∷ b.y ∷ b.z ∷ c.x ∷ c.y ∷ c.z ∷ []) (search reads depth 40) refl
+cramer_y : (d a b c : Vec3) →
+    det_of d b c *ℤ a.y +ℤ det_of d c a *ℤ b.y +ℤ det_of d a b *ℤ c.y ≡ det_of a b c *ℤ d.y
+cramer_y d a b c = ring (d.x ∷ d.y ∷ d.z ∷ a.x ∷ a.y ∷ a.z ∷ b.x ∷ b.y ∷ b.z ∷ c.x ∷ c.y ∷ c.z ∷ [])
+    (search reads depth 40) refl
 
-cramer_z : (d a b c : Vec3) → det_of d b c *ℤ a.z +ℤ det_of d c a *ℤ b.z +ℤ det_of d a b *ℤ c.z ≡ det_of a b c *ℤ d.z
-cramer_z d a b c = ring (d.x ∷ d.y ∷ d.z ∷ a.x ∷ a.y ∷ a.z ∷ b.x ∷ b.y ∷ b.z ∷ c.x ∷ c.y ∷ c.z ∷ []) (search reads depth 40) refl
+cramer_z : (d a b c : Vec3) →
+    det_of d b c *ℤ a.z +ℤ det_of d c a *ℤ b.z +ℤ det_of d a b *ℤ c.z ≡ det_of a b c *ℤ d.z
+cramer_z d a b c = ring (d.x ∷ d.y ∷ d.z ∷ a.x ∷ a.y ∷ a.z ∷ b.x ∷ b.y ∷ b.z ∷ c.x ∷ c.y ∷ c.z ∷ [])
+    (search reads depth 40) refl
 
-cramer : (d a b c : Vec3) (s : Shares) → s.first ≡ det_of d b c → s.second ≡ det_of d c a → s.third ≡ det_of d a b → shared s a b c ≡ scaled_by (det_of a b c) d
-cramer d a b c s e f g = together e f g ∙ same_vector (cramer_x d a b c) (cramer_y d a b c) (cramer_z d a b c)
+cramer : (d a b c : Vec3) (s : Shares) → s.first ≡ det_of d b c → s.second ≡ det_of d c a →
+    s.third ≡ det_of d a b → shared s a b c ≡ scaled_by (det_of a b c) d
+cramer d a b c s e f g = together e f g ∙ same_vector (cramer_x d a b c) (cramer_y d a b c)
+    (cramer_z d a b c)
   where
-    together : {p q r : ℤ} → s.first ≡ p → s.second ≡ q → s.third ≡ r → shared s a b c ≡ sum_of (sum_of (scaled_by p a) (scaled_by q b)) (scaled_by r c)
-    together e f g = λ i. sum_of (sum_of (scaled_by (e i) a) (scaled_by (f i) b)) (scaled_by (g i) c)
+    together : {p q r : ℤ} → s.first ≡ p → s.second ≡ q → s.third ≡ r →
+        shared s a b c ≡ sum_of (sum_of (scaled_by p a) (scaled_by q b)) (scaled_by r c)
+    together e f g = λ i. sum_of (sum_of (scaled_by (e i) a) (scaled_by (f i) b))
+        (scaled_by (g i) c)
 
 -- the product of a direction with shared corners that have one product with it
-shared_product : (w : Vec3) (s : Shares) (a b c : Vec3) (top : ℤ) → dot_of w a ≡ top → dot_of w b ≡ top → dot_of w c ≡ top → dot_of w (shared s a b c) ≡ total_of s *ℤ top
+shared_product : (w : Vec3) (s : Shares) (a b c : Vec3) (top : ℤ) → dot_of w a ≡ top →
+    dot_of w b ≡ top → dot_of w c ≡ top → dot_of w (shared s a b c) ≡ total_of s *ℤ top
 shared_product w s a b c top e f g =
     let p = s.first in
     let q = s.second in
@@ -126,15 +163,20 @@ shared_product w s a b c top e f g =
     let first = dot-scaled w p a ∙ ap (λ (z : ℤ). p *ℤ z) e in
     let second = dot-scaled w q b ∙ ap (λ (z : ℤ). q *ℤ z) f in
     let third = dot-scaled w r c ∙ ap (λ (z : ℤ). r *ℤ z) g in
-    let all : (p +ℤ q +ℤ r) *ℤ top ≡ p *ℤ top +ℤ q *ℤ top +ℤ r *ℤ top = ring (p ∷ q ∷ r ∷ top ∷ []) (search reads depth 40) refl in
+    let all : (p +ℤ q +ℤ r) *ℤ top ≡ p *ℤ top +ℤ q *ℤ top +ℤ r *ℤ top = ring (p ∷ q ∷ r ∷ top ∷ [])
+    (search reads depth 40) refl in
     omega (arith, linear, parts, front, first, second, third, all)
 
 -- the weights that a face gives
-pub exit_on_face : (lists : List (List Vec3)) (d : Vec3) (e : ExitWeights) (a b c : Vec3) (s : Shares) → IsCut lists d e.cut → AreShares s → AreSharesOf d a b c s → pos 1 ≤ℤ total_of s →
+pub exit_on_face : (lists : List (List Vec3)) (d : Vec3) (e : ExitWeights) (a b c : Vec3)
+    (s : Shares) → IsCut lists d e.cut → AreShares s → AreSharesOf d a b c s → pos 1 ≤ℤ total_of s →
     dot_of e.cut.w a ≡ e.cut.top → dot_of e.cut.w b ≡ e.cut.top → dot_of e.cut.w c ≡ e.cut.top →
-    e.q ≡ total_of s → e.t ≡ det_of a b c → EachHasWeights (total_of s) lists e.weights.items → weighted_sum e.weights.items lists ≡ shared s a b c → IsExit lists d e
-exit_on_face lists d e a b c s cut within of some touches_a touches_b touches_c q_is t_is weights sum =
-    let meets : weighted_sum e.weights.items lists ≡ scaled_by e.t d = sum ∙ cramer d a b c s of.first of.second of.third ∙ ap (λ (k : ℤ). scaled_by k d) (sym t_is) in
+    e.q ≡ total_of s → e.t ≡ det_of a b c → EachHasWeights (total_of s) lists e.weights.items →
+    weighted_sum e.weights.items lists ≡ shared s a b c → IsExit lists d e
+exit_on_face lists d e a b c s cut within of some touches_a touches_b touches_c q_is t_is weights
+    sum =
+    let meets : weighted_sum e.weights.items lists ≡ scaled_by e.t d = sum
+    ∙ cramer d a b c s of.first of.second of.third ∙ ap (λ (k : ℤ). scaled_by k d) (sym t_is) in
     let low : pos 1 ≤ℤ e.q = omega (arith, ints) in
     let first = within.first.high in
     let second = within.second.high in
@@ -142,22 +184,32 @@ exit_on_face lists d e a b c s cut within of some touches_a touches_b touches_c 
     let high : e.q ≤ℤ MOST_WEIGHT = omega (arith, ints) in
     let product = shared_product e.cut.w s a b c e.cut.top touches_a touches_b touches_c in
     let same : e.t *ℤ e.cut.bottom ≡ e.q *ℤ e.cut.top =
-    ap (λ (z : ℤ). e.t *ℤ z) cut.bottom ∙ sym (dot-scaled e.cut.w e.t d) ∙ ap (dot_of e.cut.w) (sym meets ∙ sum) ∙ product ∙ ap (λ (z : ℤ). z *ℤ e.cut.top) (sym q_is) in
-    exit_is lists d e cut low high (subst (λ (k : ℤ). EachHasWeights k lists e.weights.items) (sym q_is) weights) meets same
+    ap (λ (z : ℤ). e.t *ℤ z) cut.bottom ∙ sym (dot-scaled e.cut.w e.t d)
+    ∙ ap (dot_of e.cut.w) (sym meets ∙ sum) ∙ product
+    ∙ ap (λ (z : ℤ). z *ℤ e.cut.top) (sym q_is) in
+    exit_is lists d e cut low high
+    (subst (λ (k : ℤ). EachHasWeights k lists e.weights.items) (sym q_is) weights) meets same
 
 -- the weights at the origin
-pub exit_at_origin : (lists : List (List Vec3)) (d : Vec3) (e : ExitWeights) (origin : Vec3) (s : Shares) → IsCut lists d e.cut → e.cut.top ≡ pos 0 → origin ≡ zero_vector → e.q ≡ pos 1 → e.t ≡ pos 0 →
-    total_of s ≡ pos 1 → EachHasWeights (total_of s) lists e.weights.items → weighted_sum e.weights.items lists ≡ shared s origin origin origin → IsExit lists d e
+pub exit_at_origin : (lists : List (List Vec3)) (d : Vec3) (e : ExitWeights) (origin : Vec3)
+    (s : Shares) → IsCut lists d e.cut → e.cut.top ≡ pos 0 → origin ≡ zero_vector → e.q ≡ pos 1 →
+    e.t ≡ pos 0 →
+    total_of s ≡ pos 1 → EachHasWeights (total_of s) lists e.weights.items →
+    weighted_sum e.weights.items lists ≡ shared s origin origin origin → IsExit lists d e
 exit_at_origin lists d e origin s cut top is q_is t_is one weights sum =
-    exit_is lists d e cut (omega (arith, ints)) (omega (arith, ints)) (subst (λ (k : ℤ). EachHasWeights k lists e.weights.items) (one ∙ sym q_is) weights)
-    (sum ∙ ap (λ (v : Vec3). shared s v v v) is ∙ nothing ∙ ap (λ (k : ℤ). scaled_by k d) (sym t_is))
-    (ap (λ (z : ℤ). z *ℤ e.cut.bottom) t_is ∙ none e.cut.bottom e.q ∙ ap (λ (z : ℤ). e.q *ℤ z) (sym top))
+    exit_is lists d e cut (omega (arith, ints)) (omega (arith, ints))
+    (subst (λ (k : ℤ). EachHasWeights k lists e.weights.items) (one ∙ sym q_is) weights)
+    (sum ∙ ap (λ (v : Vec3). shared s v v v) is ∙ nothing
+    ∙ ap (λ (k : ℤ). scaled_by k d) (sym t_is))
+    (ap (λ (z : ℤ). z *ℤ e.cut.bottom) t_is ∙ none e.cut.bottom e.q
+    ∙ ap (λ (z : ℤ). e.q *ℤ z) (sym top))
   where
     part : (p q r z : ℤ) → p *ℤ pos 0 +ℤ q *ℤ pos 0 +ℤ r *ℤ pos 0 ≡ pos 0 *ℤ z
     part p q r z = ring (p ∷ q ∷ r ∷ z ∷ []) (search reads depth 40) refl
 
     nothing : shared s zero_vector zero_vector zero_vector ≡ scaled_by (pos 0) d
-    nothing = same_vector (part s.first s.second s.third d.x) (part s.first s.second s.third d.y) (part s.first s.second s.third d.z)
+    nothing = same_vector (part s.first s.second s.third d.x) (part s.first s.second s.third d.y)
+        (part s.first s.second s.third d.z)
 
     none : (b q : ℤ) → pos 0 *ℤ b ≡ q *ℤ pos 0
     none b q = ring (b ∷ q ∷ []) (search reads depth 40) refl

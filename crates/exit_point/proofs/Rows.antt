@@ -23,13 +23,16 @@ sum-zero_left : (a : Vec3) → sum_of zero_vector a ≡ a
 sum-zero_left a = same_vector (omega (arith, ints)) (omega (arith, ints)) (omega (arith, ints))
 
 nothing_scaled : (k : ℤ) → zero_vector ≡ sum_of zero_vector (scaled_by k zero_vector)
-nothing_scaled k = same_vector (ring (k ∷ []) (search reads depth 40) refl) (ring (k ∷ []) (search reads depth 40) refl) (ring (k ∷ []) (search reads depth 40) refl)
+nothing_scaled k = same_vector (ring (k ∷ []) (search reads depth 40) refl)
+    (ring (k ∷ []) (search reads depth 40) refl) (ring (k ∷ []) (search reads depth 40) refl)
 
 part_more : (k s v r : ℤ) → (k +ℤ s) *ℤ v +ℤ r ≡ k *ℤ v +ℤ r +ℤ s *ℤ v
 part_more k s v r = ring (k ∷ s ∷ v ∷ r ∷ []) (search reads depth 40) refl
 
-scaled_more : (k s : ℤ) (v r : Vec3) → sum_of (scaled_by (k +ℤ s) v) r ≡ sum_of (sum_of (scaled_by k v) r) (scaled_by s v)
-scaled_more k s v r = same_vector (part_more k s v.x r.x) (part_more k s v.y r.y) (part_more k s v.z r.z)
+scaled_more : (k s : ℤ) (v r : Vec3) →
+    sum_of (scaled_by (k +ℤ s) v) r ≡ sum_of (sum_of (scaled_by k v) r) (scaled_by s v)
+scaled_more k s v r = same_vector (part_more k s v.x r.x) (part_more k s v.y r.y)
+    (part_more k s v.z r.z)
 
 pub sum-assoc : (a b c : Vec3) → sum_of a (sum_of b c) ≡ sum_of (sum_of a b) c
 sum-assoc a b c = same_vector (omega (arith, ints)) (omega (arith, ints)) (omega (arith, ints))
@@ -37,27 +40,36 @@ sum-assoc a b c = same_vector (omega (arith, ints)) (omega (arith, ints)) (omega
 -- ---- one list
 
 -- no weight at all
-nothing_weighted : (n : ℕ) (images : List Vec3) → weighted (replicate n (pos 0)) images ≡ zero_vector
+nothing_weighted : (n : ℕ) (images : List Vec3) →
+    weighted (replicate n (pos 0)) images ≡ zero_vector
 nothing_weighted zero images = refl
 nothing_weighted (suc n) [] = refl
 nothing_weighted (suc n) (v ∷ images) =
     ap (sum_of (scaled_by (pos 0) v)) (nothing_weighted n images)
-    ∙ same_vector (ring (v.x ∷ []) (search reads depth 40) refl) (ring (v.y ∷ []) (search reads depth 40) refl) (ring (v.z ∷ []) (search reads depth 40) refl)
+    ∙ same_vector (ring (v.x ∷ []) (search reads depth 40) refl)
+    (ring (v.y ∷ []) (search reads depth 40) refl)
+    (ring (v.z ∷ []) (search reads depth 40) refl)
 
-share_weighted : (images : List Vec3) (weights : List ℤ) (place : ℕ) (share : ℤ) → place ≤ length images → length weights ≡ length images + 1 →
-    weighted (with_share weights place share) images ≡ sum_of (weighted weights images) (scaled_by share (image_at images place))
+share_weighted : (images : List Vec3) (weights : List ℤ) (place : ℕ) (share : ℤ) →
+    place ≤ length images → length weights ≡ length images + 1 →
+    weighted (with_share weights place share) images ≡ sum_of (weighted weights images)
+    (scaled_by share (image_at images place))
 share_weighted [] [] place share h e = absurd (omega arith)
 share_weighted [] (k ∷ weights) zero share h e = nothing_scaled share
 share_weighted [] (k ∷ weights) (suc place) share h e = absurd (omega arith)
 share_weighted (v ∷ images) [] place share h e = absurd (omega arith)
-share_weighted (v ∷ images) (k ∷ weights) zero share h e = scaled_more k share v (weighted weights images)
+share_weighted (v ∷ images) (k ∷ weights) zero share h e =
+    scaled_more k share v (weighted weights images)
 share_weighted (v ∷ images) (k ∷ weights) (suc place) share h e =
-    ap (sum_of (scaled_by k v)) (share_weighted images weights place share (omega arith) (omega arith))
+    ap (sum_of (scaled_by k v))
+    (share_weighted images weights place share (omega arith) (omega arith))
     ∙ sum-assoc (scaled_by k v) (weighted weights images) (scaled_by share (image_at images place))
 
-share_sum : (a : ℤ) (weights : List ℤ) (place : ℕ) (share : ℤ) → place < length weights → fold ◌+ℤ◌ a (with_share weights place share) ≡ fold ◌+ℤ◌ a weights +ℤ share
+share_sum : (a : ℤ) (weights : List ℤ) (place : ℕ) (share : ℤ) → place < length weights →
+    fold ◌+ℤ◌ a (with_share weights place share) ≡ fold ◌+ℤ◌ a weights +ℤ share
 share_sum a [] place share h = absurd (omega arith)
-share_sum a (k ∷ weights) zero share h = ap (λ (z : ℤ). fold ◌+ℤ◌ z weights) (regroup a k share) ∙ fold_later (a +ℤ k) share weights
+share_sum a (k ∷ weights) zero share h = ap (λ (z : ℤ). fold ◌+ℤ◌ z weights) (regroup a k share)
+    ∙ fold_later (a +ℤ k) share weights
   where
     regroup : (a k s : ℤ) → a +ℤ (k +ℤ s) ≡ a +ℤ k +ℤ s
     regroup a k s = omega (arith, ints)
@@ -70,10 +82,12 @@ share_sum a (k ∷ weights) zero share h = ap (λ (z : ℤ). fold ◌+ℤ◌ z w
     fold_later a s (k ∷ ks) = ap (λ (z : ℤ). fold ◌+ℤ◌ z ks) (swap a s k) ∙ fold_later (a +ℤ k) s ks
 share_sum a (k ∷ weights) (suc place) share h = share_sum (a +ℤ k) weights place share (omega arith)
 
-pub tail_from_0 : (k : ℤ) (weights : List ℤ) → All (λ w. pos 0 ≤ℤ w) (k ∷ weights) → All (λ w. pos 0 ≤ℤ w) weights
+pub tail_from_0 : (k : ℤ) (weights : List ℤ) → All (λ w. pos 0 ≤ℤ w) (k ∷ weights) →
+    All (λ w. pos 0 ≤ℤ w) weights
 tail_from_0 k weights h = λ i d p. h (suc i) d (omega arith)
 
-pub start_at_most : (a : ℤ) (weights : List ℤ) → All (λ w. pos 0 ≤ℤ w) weights → a ≤ℤ fold ◌+ℤ◌ a weights
+pub start_at_most : (a : ℤ) (weights : List ℤ) → All (λ w. pos 0 ≤ℤ w) weights →
+    a ≤ℤ fold ◌+ℤ◌ a weights
 start_at_most a [] h = omega (arith, ints)
 start_at_most a (k ∷ weights) h =
     let here = h 0 (pos 0) (omega arith) in
@@ -81,7 +95,8 @@ start_at_most a (k ∷ weights) h =
     omega (arith, ints)
 
 -- no weight is greater than the sum of all
-weight_at_most : (a : ℤ) (weights : List ℤ) (place : ℕ) → pos 0 ≤ℤ a → All (λ w. pos 0 ≤ℤ w) weights → get_or weights place (pos 0) ≤ℤ fold ◌+ℤ◌ a weights
+weight_at_most : (a : ℤ) (weights : List ℤ) (place : ℕ) → pos 0 ≤ℤ a →
+    All (λ w. pos 0 ≤ℤ w) weights → get_or weights place (pos 0) ≤ℤ fold ◌+ℤ◌ a weights
 weight_at_most a [] place g h = g
 weight_at_most a (k ∷ weights) zero g h =
     let later = start_at_most (a +ℤ k) weights (tail_from_0 k weights h) in
@@ -90,7 +105,8 @@ weight_at_most a (k ∷ weights) (suc place) g h =
     let here = h 0 (pos 0) (omega arith) in
     weight_at_most (a +ℤ k) weights place (omega (arith, ints)) (tail_from_0 k weights h)
 
-weight_from_0 : (weights : List ℤ) (place : ℕ) → All (λ w. pos 0 ≤ℤ w) weights → pos 0 ≤ℤ get_or weights place (pos 0)
+weight_from_0 : (weights : List ℤ) (place : ℕ) → All (λ w. pos 0 ≤ℤ w) weights →
+    pos 0 ≤ℤ get_or weights place (pos 0)
 weight_from_0 [] place h = omega (arith, ints)
 weight_from_0 (k ∷ weights) zero h = h 0 (pos 0) (omega arith)
 weight_from_0 (k ∷ weights) (suc place) h = weight_from_0 weights place (tail_from_0 k weights h)
@@ -100,9 +116,15 @@ pub record Weigh (q : ℤ) (images : List Vec3) (weights : List ℤ) (v : Vec3) 
   pub are : AreWeights q images weights
   pub sum : weighted weights images ≡ v
 
-pub none_weigh : (images : List Vec3) → Weigh (pos 0) images (replicate (length images + 1) (pos 0)) zero_vector
+pub none_weigh : (images : List Vec3) →
+    Weigh (pos 0) images (replicate (length images + 1) (pos 0)) zero_vector
 none_weigh images = record {
-  are = record { one_each = length_all (length images + 1); from_0 = all_from_0 (length images + 1); sum = none (length images + 1) };
+  are = record {
+    one_each = length_all (length images + 1);
+    from_0 = all_from_0 (length images + 1);
+    sum =
+        none (length images + 1);
+  };
   sum = nothing_weighted (length images + 1) images;
 }
   where
@@ -119,8 +141,10 @@ none_weigh images = record {
     none zero = refl
     none (suc n) = none n
 
-pub share_weighs : (q : ℤ) (images : List Vec3) (weights : List ℤ) (v : Vec3) (place : ℕ) (share : ℤ) → Weigh q images weights v → place ≤ length images → pos 0 ≤ℤ share →
-    Weigh (q +ℤ share) images (with_share weights place share) (sum_of v (scaled_by share (image_at images place)))
+pub share_weighs : (q : ℤ) (images : List Vec3) (weights : List ℤ) (v : Vec3) (place : ℕ)
+    (share : ℤ) → Weigh q images weights v → place ≤ length images → pos 0 ≤ℤ share →
+    Weigh (q +ℤ share) images (with_share weights place share)
+    (sum_of v (scaled_by share (image_at images place)))
 share_weighs q images weights v place share h p s =
     let old = h.are in
     let from_0 = weight_from_0 weights place old.from_0 in
@@ -129,14 +153,18 @@ share_weighs q images weights v place share h p s =
     record {
       are = record {
         one_each = length-set weights place (get_or weights place (pos 0) +ℤ share) ∙ one_each;
-        from_0 = All-set (λ w. pos 0 ≤ℤ w) weights place (get_or weights place (pos 0) +ℤ share) more old.from_0;
-        sum = share_sum (pos 0) weights place share (omega arith) ∙ ap (λ (z : ℤ). z +ℤ share) old.sum;
+        from_0 = All-set (λ w. pos 0 ≤ℤ w) weights place (get_or weights place (pos 0) +ℤ share)
+            more old.from_0;
+        sum = share_sum (pos 0) weights place share (omega arith)
+            ∙ ap (λ (z : ℤ). z +ℤ share) old.sum;
       };
-      sum = share_weighted images weights place share p one_each ∙ ap (λ (a : Vec3). sum_of a (scaled_by share (image_at images place))) h.sum;
+      sum = share_weighted images weights place share p one_each
+          ∙ ap (λ (a : Vec3). sum_of a (scaled_by share (image_at images place))) h.sum;
     }
 
 -- a weight with a share more fits 64 bits
-pub share_fits : (q : ℤ) (images : List Vec3) (weights : List ℤ) (v : Vec3) (place : ℕ) (share : ℤ) → Weigh q images weights v → q ≤ℤ pos 1000000000000000000 → IsShare share →
+pub share_fits : (q : ℤ) (images : List Vec3) (weights : List ℤ) (v : Vec3) (place : ℕ)
+    (share : ℤ) → Weigh q images weights v → q ≤ℤ pos 1000000000000000000 → IsShare share →
     SFits w64 (get_or weights place (pos 0) +ℤ share)
 share_fits q images weights v place share h b s =
     let low = weight_from_0 weights place h.are.from_0 in
@@ -148,28 +176,48 @@ share_fits q images weights v place share h b s =
 
 -- the three shares in the order in which they are given
 pub three_weigh : (shares : Shares) (images : List Vec3) (weights : List ℤ) (a b c : Vec3) →
-    Weigh (pos 0 +ℤ shares.first +ℤ shares.second +ℤ shares.third) images weights (sum_of (sum_of (sum_of zero_vector (scaled_by shares.first a)) (scaled_by shares.second b)) (scaled_by shares.third c)) →
+    Weigh (pos 0 +ℤ shares.first +ℤ shares.second +ℤ shares.third) images weights
+    (sum_of (sum_of (sum_of zero_vector (scaled_by shares.first a)) (scaled_by shares.second b))
+    (scaled_by shares.third c)) →
     Weigh (shares.first +ℤ shares.second +ℤ shares.third) images weights (shared shares a b c)
 three_weigh shares images weights a b c h =
     let same : pos 0 +ℤ shares.first ≡ shares.first = omega (arith, ints) in
     record {
-      are = record { one_each = h.are.one_each; from_0 = h.are.from_0; sum = h.are.sum ∙ ap (λ (z : ℤ). z +ℤ shares.second +ℤ shares.third) same };
-      sum = h.sum ∙ ap (λ (v : Vec3). sum_of (sum_of v (scaled_by shares.second b)) (scaled_by shares.third c)) (sum-zero_left (scaled_by shares.first a));
+      are = record {
+        one_each = h.are.one_each;
+        from_0 = h.are.from_0;
+        sum = h.are.sum
+            ∙ ap (λ (z : ℤ). z +ℤ shares.second +ℤ shares.third) same;
+      };
+      sum = h.sum
+          ∙ ap (λ (v : Vec3). sum_of (sum_of v (scaled_by shares.second b))
+          (scaled_by shares.third c)) (sum-zero_left (scaled_by shares.first a));
     }
 
 -- ---- the same as the code has it
 
-pub first_weigh : (images : List Vec3) (items array : List ℤ) → items ≡ take (length images + 1) array → array ≡ replicate 9 (pos 0) → length images ≤ 8 → Weigh (pos 0) images items zero_vector
+pub first_weigh : (images : List Vec3) (items array : List ℤ) →
+    items ≡ take (length images + 1) array → array ≡ replicate 9 (pos 0) → length images ≤ 8 →
+    Weigh (pos 0) images items zero_vector
 first_weigh images items array e f h =
-    let zeros : items ≡ replicate (length images + 1) (pos 0) = e ∙ ap (λ (l : List ℤ). take (length images + 1) l) f ∙ take-replicate (length images + 1) 9 (pos 0) (omega arith) in
+    let zeros : items ≡ replicate (length images + 1) (pos 0) = e
+    ∙ ap (λ (l : List ℤ). take (length images + 1) l) f
+    ∙ take-replicate (length images + 1) 9 (pos 0) (omega arith) in
     rw zeros (none_weigh images)
 
-pub next_weigh : (q : ℤ) (images : List Vec3) (weights : List ℤ) (v : Vec3) (place : ℕ) (share : ℤ) (new : List ℤ) (given : ℤ) → Weigh q images weights v → new ≡ with_share weights place given → given ≡ share →
-    place ≤ length images → IsShare share → Weigh (q +ℤ share) images new (sum_of v (scaled_by share (image_at images place)))
+pub next_weigh : (q : ℤ) (images : List Vec3) (weights : List ℤ) (v : Vec3) (place : ℕ) (share : ℤ)
+    (new : List ℤ) (given : ℤ) → Weigh q images weights v → new ≡ with_share weights place given →
+    given ≡ share →
+    place ≤ length images → IsShare share →
+    Weigh (q +ℤ share) images new (sum_of v (scaled_by share (image_at images place)))
 next_weigh q images weights v place share new given h e f p s =
-    let is : new ≡ with_share weights place share = e ∙ ap (λ (z : ℤ). with_share weights place z) f in
+    let is : new ≡ with_share weights place share = e
+    ∙ ap (λ (z : ℤ). with_share weights place z) f in
     rw is (share_weighs q images weights v place share h p s.low)
 
-pub next_fits : (q : ℤ) (images : List Vec3) (weights : List ℤ) (v : Vec3) (place : ℕ) (share given : ℤ) → Weigh q images weights v → given ≡ share → q ≤ℤ pos 1000000000000000000 → IsShare share →
+pub next_fits : (q : ℤ) (images : List Vec3) (weights : List ℤ) (v : Vec3) (place : ℕ)
+    (share given : ℤ) → Weigh q images weights v → given ≡ share → q ≤ℤ pos 1000000000000000000 →
+    IsShare share →
     SFits w64 (get_or weights place (pos 0) +ℤ given)
-next_fits q images weights v place share given h f b s = rw f (share_fits q images weights v place share h b s)
+next_fits q images weights v place share given h f b s =
+    rw f (share_fits q images weights v place share h b s)

@@ -18,10 +18,28 @@ pub short_of_sum : {v : Vec3} → IsSum v → IsShort v
 short_of_sum h = wider SHORT_FORCE SHORT_MOMENT (omega (arith, ints)) (omega (arith, ints)) h
 
 pub span_of_difference : (a b : Vec3) → IsSum a → IsSum b → IsSpan (difference_of a b)
-span_of_difference a b h k = record { x = within (search machine depth 40) tt; y = within (search machine depth 40) tt; z = within (search machine depth 40) tt }
+span_of_difference a b h k =
+    record {
+      x = within (search machine depth 40) tt;
+      y = within (search machine depth 40) tt;
+      z =
+          within (search machine depth 40) tt;
+    }
 
 pub short_of_cross : (a b : Vec3) → IsSpan a → IsSpan b → IsShort (cross_of a b)
-short_of_cross a b h k = record { x = within (search machine depth 40) tt; y = within (search machine depth 40) tt; z = within (search machine depth 40) tt }
+short_of_cross a b h k =
+    record {
+      x = within (search machine depth 40) tt;
+      y = within (search machine depth 40) tt;
+      z =
+          within (search machine depth 40) tt;
+    }
 
 pub short_of_opposite : (a : Vec3) → IsShort a → IsShort (opposite_of a)
-short_of_opposite a h = record { x = within (search machine depth 40) tt; y = within (search machine depth 40) tt; z = within (search machine depth 40) tt }
+short_of_opposite a h =
+    record {
+      x = within (search machine depth 40) tt;
+      y = within (search machine depth 40) tt;
+      z =
+          within (search machine depth 40) tt;
+    }

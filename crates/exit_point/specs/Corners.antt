@@ -40,7 +40,8 @@ pub record AreShares (shares : Shares) : Type 0 where
 
 -- three vectors, each times its share, summed
 abbrev pub shared : Shares → Vec3 → Vec3 → Vec3 → Vec3
-shared shares a b c = sum_of (sum_of (scaled_by shares.first a) (scaled_by shares.second b)) (scaled_by shares.third c)
+shared shares a b c = sum_of (sum_of (scaled_by shares.first a) (scaled_by shares.second b))
+    (scaled_by shares.third c)
 
 -- what the shares sum to
 abbrev pub total_of : Shares → ℤ
@@ -48,7 +49,8 @@ total_of shares = shares.first +ℤ shares.second +ℤ shares.third
 
 -- the weights with a share more at a place
 abbrev pub with_share : List ℤ → ℕ → ℤ → List ℤ
-with_share weights place share = slice_set weights place (slice_index_or weights place (pos 0) +ℤ share)
+with_share weights place share = slice_set weights place
+    (slice_index_or weights place (pos 0) +ℤ share)
 
 -- the vector is within the bounds of a difference of two sums of images
 abbrev pub IsSpan : Vec3 → Type 0
@@ -57,7 +59,8 @@ IsSpan v = IsVectorWithin SPAN_FORCE SPAN_MOMENT v
 -- the fourth corner stands in the place of one of the three
 abbrev pub Replaces : Corners → Vertex → Corners → Type 0
 Replaces old fourth new =
-    (new ≡ record old { first = fourth }) ⊎ ((new ≡ record old { second = fourth }) ⊎ (new ≡ record old { third = fourth }))
+    (new ≡ record old { first = fourth }) ⊎
+    ((new ≡ record old { second = fourth }) ⊎ (new ≡ record old { third = fourth }))
 
 -- a direction, and corners of the lists if there are any
 abbrev pub IsFound : List (List Vec3) → Found → Type 0

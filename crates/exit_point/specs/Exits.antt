@@ -8,7 +8,8 @@ use Rattle.wrench_geometry.specs.Vectors.{scaled_by, sum_of, zero_vector}
 use Rattle.exit_point.specs.declared.weights.ExitWeights.{ExitWeights}
 use Rattle.exit_point.specs.declared.weights.TheConstants.{MOST_WEIGHT}
 
--- the sum of a list's images, each times its weight; a weight past the last image is the origin's and adds nothing
+-- the sum of a list's images, each times its weight; a weight past the last image is the origin's
+-- and adds nothing
 abbrev pub weighted : List ℤ → List Vec3 → Vec3
 weighted (weight ∷ weights) (v ∷ images) = sum_of (scaled_by weight v) (weighted weights images)
 weighted _ _ = zero_vector
@@ -25,10 +26,12 @@ EachHasWeights q lists rows = AllZip (λ images row. AreWeights q images row.ite
 
 -- the weighted images of all lists, summed
 abbrev pub weighted_sum : List (ArrayVec ℤ) → List (List Vec3) → Vec3
-weighted_sum (row ∷ rows) (images ∷ lists) = sum_of (weighted row.items images) (weighted_sum rows lists)
+weighted_sum (row ∷ rows) (images ∷ lists) = sum_of (weighted row.items images)
+    (weighted_sum rows lists)
 weighted_sum _ _ = zero_vector
 
--- the answer shows where d's ray leaves the sums of the lists: t/q·d is a mean of each list's images and the origin,
+-- the answer shows where d's ray leaves the sums of the lists: t/q·d is a mean of each list's
+-- images and the origin,
 -- summed over the lists, and by the cut no sum lies further along d
 pub record IsExit (lists : List (List Vec3)) (d : Vec3) (e : ExitWeights) : Type 0 where
   pub cut : IsLeastCut lists d e.cut

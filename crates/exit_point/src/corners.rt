@@ -39,8 +39,8 @@ pub fn normal(a: Vec3, b: Vec3) -> Vec3
     cross(a, b)
 }
 
-/// Whether the demand lies on the side of a plane to which its normal points. Where it lies in the plane, it is moved a
-/// little along x, and if need be less along y, and less still along z.
+/// Whether the demand lies on the side of a plane to which its normal points. Where it lies in the
+/// plane, it is moved a little along x, and if need be less along y, and less still along z.
 pub fn is_ahead(normal: Vec3, d: Vec3) -> bool
     requires normal { IsShort normal }
     requires d { IsDemandVector d }
@@ -57,7 +57,8 @@ pub fn is_ahead(normal: Vec3, d: Vec3) -> bool
     }
 }
 
-/// A normal of the demand and a sum of images, and any normal of the demand where they lie on one line.
+/// A normal of the demand and a sum of images, and any normal of the demand where they lie on one
+/// line.
 pub fn across(d: Vec3, point: Vec3) -> Vec3
     requires demand { IsDemandVector d }
     requires point { IsSum point }
@@ -86,7 +87,8 @@ pub fn is_left(a: &Vertex, b: &Vertex, d: Vec3) -> bool
     is_ahead(normal(a.point, b.point), d)
 }
 
-/// The edge with its corners in the order in which the demand lies ahead of the plane through them and the origin.
+/// The edge with its corners in the order in which the demand lies ahead of the plane through them
+/// and the origin.
 pub fn turned(edge: Edge, d: Vec3) -> Edge
     requires demand { IsDemandVector d }
     requires first { IsSum edge.first.point }
@@ -118,7 +120,8 @@ pub fn plane(corners: &Corners) -> Vec3
     )
 }
 
-/// Three of four corners, the fourth among them, of which the cone has the demand where that of the first three had it.
+/// Three of four corners, the fourth among them, of which the cone has the demand where that of the
+/// first three had it.
 pub fn replaced(corners: Corners, fourth: Vertex, d: Vec3) -> Corners
     requires demand { IsDemandVector d }
     requires first { IsSum corners.first.point }

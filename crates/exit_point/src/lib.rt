@@ -1,5 +1,5 @@
-//! Where the ray of a demand leaves the sums of lists, shown by a least cut and by weights of the lists' images. Nothing
-//! here overflows, and nothing takes memory.
+//! Where the ray of a demand leaves the sums of lists, shown by a least cut and by weights of the
+//! lists' images. Nothing here overflows, and nothing takes memory.
 #![tactic(auto)]
 
 mod corners;

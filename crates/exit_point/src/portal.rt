@@ -1,4 +1,5 @@
-//! Where the ray of a demand leaves the sums of lists, found by a search that may give up. What it finds proves itself.
+//! Where the ray of a demand leaves the sums of lists, found by a search that may give up. What it
+//! finds proves itself.
 ghost use Rattle.std.specs.Prelude.{◌≡◌, ◌↔◌, pos, ◌≤ℤ◌, IfSome, IsTrue};
 ghost use Rattle.wrench_geometry.specs.Cuts.{IsCut};
 ghost use Rattle.wrench_geometry.specs.Vectors.{dot_of};
@@ -13,8 +14,9 @@ use crate::weights::{ExitWeights, Shares, weights};
 use dp_num::gcd;
 use wrench_geometry::{CUT_PARTS_BELOW, Cut, Sums, Vec3, determinant, farthest, product};
 
-/// Weights that show where the ray of the demand leaves the sums of the lists, with a least cut. The demand is within its
-/// limits. None is no answer: the search gave up, as it does where all sums lie on one line.
+/// Weights that show where the ray of the demand leaves the sums of the lists, with a least cut.
+/// The demand is within its limits. None is no answer: the search gave up, as it does where all
+/// sums lie on one line.
 pub fn exit(sums: &Sums, d: Vec3) -> Option<ExitWeights>
     requires { IsDemandVector d }
     ensures { IfSome result (IsExit sums.now d) }
@@ -50,8 +52,9 @@ fn at_origin(sums: &Sums, d: Vec3, w: Vec3) -> Option<ExitWeights>
     })
 }
 
-/// The weights where the ray leaves the sums between three corners that the cut along `w` touches. By Cramer's rule each
-/// corner's share is the determinant of the demand and the other two, and `t` is that of the corners.
+/// The weights where the ray leaves the sums between three corners that the cut along `w` touches.
+/// By Cramer's rule each corner's share is the determinant of the demand and the other two, and `t`
+/// is that of the corners.
 fn on_face(sums: &Sums, d: Vec3, w: Vec3, corners: &Corners) -> Option<ExitWeights>
     requires demand { IsDemandVector d }
     requires short { IsShort w }
@@ -117,8 +120,8 @@ fn total(shares: Shares) -> i64
     shares.first + shares.second + shares.third
 }
 
-/// The cut along a direction, divided by the greatest whole number that divides it. None where the demand isn't ahead, or
-/// where a part isn't below `CUT_PARTS_BELOW`.
+/// The cut along a direction, divided by the greatest whole number that divides it. None where the
+/// demand isn't ahead, or where a part isn't below `CUT_PARTS_BELOW`.
 fn cut_along(sums: &Sums, d: Vec3, w: Vec3) -> Option<Cut>
     requires demand { IsDemandVector d }
     requires short { IsShort w }

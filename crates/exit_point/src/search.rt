@@ -1,5 +1,6 @@
-//! The search for the face through which the ray of a demand leaves the sums of lists. Its steps are counted, and it
-//! may give up. Nothing is promised of a face but that its corners are sums: who takes it tests it.
+//! The search for the face through which the ray of a demand leaves the sums of lists. Its steps
+//! are counted, and it may give up. Nothing is promised of a face but that its corners are sums:
+//! who takes it tests it.
 ghost use Rattle.std.specs.Prelude.{◌≡◌, IfSome};
 ghost use Rattle.wrench_geometry.specs.Wrenches.{IsDemandVector, IsSum};
 ghost use Rattle.wrench_geometry.specs.Vertices.{IsShort};
@@ -20,7 +21,8 @@ pub enum Found {
     Face(Vec3, Corners),
 }
 
-/// The face, or a wall at the origin, that the ray of the demand leaves the sums by. None is no answer.
+/// The face, or a wall at the origin, that the ray of the demand leaves the sums by. None is no
+/// answer.
 pub fn search(sums: &Sums, d: Vec3) -> Option<Found>
     requires { IsDemandVector d }
     ensures { IfSome result (IsFound sums.now) }
@@ -55,9 +57,10 @@ fn beside(sums: &Sums, d: Vec3, point: Vec3) -> Option<Vertex>
     None
 }
 
-/// Three corners whose cone has the demand, or a wall at the origin. From two corners a third is found ahead of their
-/// plane, on the demand's side. Where the demand isn't in the cone of the three, the third takes the place of that
-/// one of the two that lies on the other side of the demand.
+/// Three corners whose cone has the demand, or a wall at the origin. From two corners a third is
+/// found ahead of their plane, on the demand's side. Where the demand isn't in the cone of the
+/// three, the third takes the place of that one of the two that lies on the other side of the
+/// demand.
 fn cone(sums: &Sums, d: Vec3, edge: Edge) -> Option<Found>
     requires demand { IsDemandVector d }
     requires edge { AreEnds sums.now edge }
@@ -108,8 +111,8 @@ fn wall(normal: Vec3, d: Vec3) -> Option<Found>
     }
 }
 
-/// The three corners that the ray leaves the sums between. A corner that is farther along the normal of the three than
-/// they are takes the place of one of them.
+/// The three corners that the ray leaves the sums between. A corner that is farther along the
+/// normal of the three than they are takes the place of one of them.
 fn face(sums: &Sums, d: Vec3, corners: Corners) -> Option<Found>
     requires demand { IsDemandVector d }
     requires corners { AreCorners sums.now corners }

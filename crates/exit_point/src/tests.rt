@@ -68,8 +68,8 @@ fn demo() -> Sums {
     sums
 }
 
-/// Three thrusters at each corner of a square: two that turn and a tunnel at its starboard corners, one that turns and two
-/// tunnels at the others.
+/// Three thrusters at each corner of a square: two that turn and a tunnel at its starboard corners,
+/// one that turns and two tunnels at the others.
 fn square() -> Sums {
     let mut sums = Sums::new();
     for ahead in [1_600, -1_600] {
@@ -125,7 +125,8 @@ fn demands_of_a_whole_plant(rt: HostRuntime) -> Result<(), Fail> {
     for (d, w, top, bottom) in cases {
         let exit = portal::exit(&demo(), d).ok_or("gave up")?;
         assert_eq!(rt; exit.cut.w, w);
-        assert_eq!(rt; i128::from(exit.t) * bottom, i128::from(exit.q) * top);
+        let (left, right) = (i128::from(exit.t), i128::from(exit.q));
+        assert_eq!(rt; left.checked_mul(bottom), right.checked_mul(top));
     }
     Ok(())
 }

@@ -58,7 +58,8 @@ pub fn weights(
     requires third { IsCorner sums.now third.now }
     requires shares { AreShares shares }
     ensures weights { EachHasWeights (total_of shares) sums.now result.items }
-    ensures sum { weighted_sum result.items sums.now ≡ shared shares first.now.point second.now.point third.now.point }
+    ensures sum { weighted_sum result.items sums.now
+        ≡ shared shares first.now.point second.now.point third.now.point }
 {
     let mut rows = ArrayVec::new();
     for (i, images) in sums.lists().iter().enumerate() {
@@ -81,7 +82,8 @@ fn list_weights(images: &[Vec3], places: Places, shares: Shares) -> ArrayVec<i64
     requires shares { AreShares shares }
     ensures weights { AreWeights (total_of shares) images.now result.items }
     ensures sum { weighted result.items images.now
-        ≡ shared shares (image_at images.now places.first) (image_at images.now places.second) (image_at images.now places.third) }
+        ≡ shared shares (image_at images.now places.first) (image_at images.now places.second)
+        (image_at images.now places.third) }
 {
     let mut weights = ArrayVec::from([0; MOST_WEIGHTS]);
     weights.truncate(images.len() + 1);

@@ -1,12 +1,10 @@
 -- How many items a stream can have.
 use Rattle.std.proofs.Common.{◌≡◌, ℕ, ◌+◌, ◌*◌, ◌<◌, ◌≤◌, List, [], ◌∷◌, ◌++◌, length, Bool, true}
 use Rattle.std.proofs.Common.{false, cond, ◌==◌, Option, Some, None, sum_by, ap, arith}
-use Rattle.std.proofs.Common.{length-append}
-use Rattle.std.proofs.lemmas.Bool.Decides.{nat_tests}
 use Rattle.std.proofs.lemmas.List.Sums.{sum_by-append, sum_by-cons}
 use Rattle.std.specs.List.{slice_split, onto_first, filter_map, cons_option}
 use Rattle.frame.specs.declared.item.Item.{Item}
-use Rattle.frame.specs.Frames.{between_feeds, item_of_line, items, items_end, line_feed, open_line}
+use Rattle.frame.specs.Frames.{between_feeds, item_of_line, items, line_feed, open_line}
 use Rattle.frame.specs.Frames.{whole_lines}
 use Rattle.frame.proofs.Lines.{slice_split-parts, some_parts}
 

@@ -26,7 +26,9 @@ abbrev pub demo_ties : List Tie
 demo_ties = record { name = codes "T1"; first = 0; second = 1 } ∷ []
 
 abbrev pub demo_generators : List Generator
-demo_generators = record { name = codes "G1"; section = 0; power = 4000 } ∷ record { name = codes "G2"; section = 1; power = 4000 } ∷ []
+demo_generators =
+    record { name = codes "G1"; section = 0; power = 4000 }
+    ∷ record { name = codes "G2"; section = 1; power = 4000 } ∷ []
 
 abbrev pub point : ℤ → ℤ → Point
 point x y = record { x = x; y = y }

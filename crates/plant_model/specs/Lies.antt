@@ -14,8 +14,8 @@ weighted_y [] points = pos 0
 weighted_y (w ∷ ws) [] = pos 0
 weighted_y (w ∷ ws) (p ∷ ps) = pos w *ℤ p.y +ℤ weighted_y ws ps
 
--- a thrust over q, with q at least 1, is in the hull of the points and the origin: k times it is the sum of the
--- points with some weights, which with the origin's weight make k times q
+-- a thrust over q, with q at least 1, is in the hull of the points and the origin: k times it is
+-- the sum of the points with some weights, which with the origin's weight make k times q
 pub record LiesIn (points : List Point) (thrust : Thrust) (q : ℤ) : Type 0 where
   pub k : ℤ
   pub at_least_one : pos 1 ≤ℤ k

@@ -1,7 +1,9 @@
 //! The built-in plant.
 ghost use Rattle.std.specs.Prelude.{◌≡◌, ◌≤◌, [], ◌∷◌, length, IsTrue};
 ghost use Rattle.plant_model.specs.Names.{is_name};
-ghost use Rattle.plant_model.specs.Demo.{demo_parts, demo_gains, demo_sections, demo_ties, demo_generators, demo_tunnel, demo_azimuth, demo_thrusters, demo_groups, demo_opening};
+ghost use Rattle.plant_model.specs.Demo.{demo_parts, demo_gains, demo_sections, demo_ties};
+ghost use Rattle.plant_model.specs.Demo.{demo_generators, demo_tunnel, demo_azimuth};
+ghost use Rattle.plant_model.specs.Demo.{demo_thrusters, demo_groups, demo_opening};
 
 use crate::controller::Gains;
 use crate::limits::{

@@ -2,6 +2,7 @@
 use Rattle.std.proofs.Common.{◌≡◌, ℕ, ◌+◌, ◌-◌, ◌*◌, ◌/◌, ◌≤◌, inl, inr, ap, arith}
 use Rattle.std.proofs.lemmas.Bool.{cases_lt}
 use Rattle.std.proofs.Math.Nat.{div-le_of_le-mul}
+use Rattle.wind_axes.specs.declared.angle.TheConstants.{SINE_FACTOR, SINE_SQUARE}
 use Rattle.plant_model.specs.declared.limits.TheConstants.{HALF_TURN, QUARTER_TURN}
 
 -- of numbers with one sum, those that are equal have the greatest product
@@ -18,6 +19,7 @@ half_turn_product a b sum =
           omega (arith, ap (λ x. b * x) d, product_below b (QUARTER_TURN - b) (omega arith)))
     ]
 
-pub sine_at_most : (a b : ℕ) → a + b ≡ HALF_TURN → 40000 * (a * b) / (405000000 - a * b) ≤ 10000
+pub sine_at_most : (a b : ℕ) → a + b ≡ HALF_TURN
+    → SINE_FACTOR * (a * b) / (SINE_SQUARE - a * b) ≤ SINE_FACTOR / 4
 sine_at_most a b sum =
-    div-le_of_le-mul (405000000 - a * b) (omega (arith, half_turn_product a b sum))
+    div-le_of_le-mul (SINE_SQUARE - a * b) (omega (arith, half_turn_product a b sum))

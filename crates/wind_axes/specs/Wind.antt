@@ -7,14 +7,14 @@ use Rattle.plant_model.specs.declared.limits.TheConstants.{HALF_TURN, QUARTER_TU
 use Rattle.plant_model.specs.declared.limits.TheConstants.{WIND_ROWS}
 use Rattle.plant_model.specs.declared.controller.WindRow.{WindRow}
 use Rattle.plant_model.specs.declared.wrench.Load.{Load}
-use Rattle.wind_axes.specs.declared.angle.TheConstants.{WHOLE_SINE}
+use Rattle.wind_axes.specs.declared.angle.TheConstants.{SINE_FACTOR, SINE_SQUARE, WHOLE_SINE}
 use Rattle.wind_axes.specs.declared.wind.TheConstants.{ROW_SPACING}
 
 -- the sine of an angle of at most half a turn: 4·c·(180° - c) over 40500 - c·(180° - c) in degrees
 abbrev pub half_turn_sine : ℕ → ℤ
 half_turn_sine angle =
     let product = angle * (HALF_TURN - angle) in
-    floor_quotient (pos (40000 * product)) (pos (405000000 - product))
+    floor_quotient (pos (SINE_FACTOR * product)) (pos (SINE_SQUARE - product))
 
 -- the sine of an angle below a whole turn, which half a turn changes in sign
 abbrev pub sine_of : ℕ → ℤ

@@ -10,6 +10,12 @@ use plant_model::limits::{HALF_TURN, MOST_POSITION, QUARTER_TURN, WHOLE_TURN};
 /// The sine of a right angle: sines and cosines are in ten-thousandths.
 pub const WHOLE_SINE: i32 = 10_000;
 
+/// The factor of the sine's quotient: four whole sines.
+const SINE_FACTOR: u64 = 4 * WHOLE_SINE as u64;
+
+/// The square in the sine's quotient, in square centidegrees: five times that of a right angle.
+const SINE_SQUARE: u64 = 5 * QUARTER_TURN as u64 * QUARTER_TURN as u64;
+
 /// The farthest that two positions lie apart along an axis, in cm.
 pub const MOST_OFFSET: i64 = 2 * MOST_POSITION as i64;
 
@@ -36,7 +42,7 @@ fn half_sine(angle: u32) -> i32
     ensures high { result ≤ℤ WHOLE_SINE }
 {
     let product = u64::from(angle) * u64::from(HALF_TURN - angle);
-    (40_000 * product / (405_000_000 - product)) as i32
+    (SINE_FACTOR * product / (SINE_SQUARE - product)) as i32
 }
 
 /// The cosine of an angle below a whole turn, in ten-thousandths: the sine a quarter of a turn on.

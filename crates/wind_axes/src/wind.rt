@@ -54,6 +54,7 @@ fn component(here: i32, next: i32, rest: u32, speed: u32) -> i64
 mod tests {
     use super::*;
     use crate::angle::{cosine, sine};
+    use plant_model::demo::wind::WIND;
 
     fn demo_table() -> [WindRow; WIND_ROWS] {
         let mut table = [WindRow::default(); WIND_ROWS];
@@ -63,6 +64,13 @@ mod tests {
             row.y = (-sine(angle)).div_euclid(2);
         }
         table
+    }
+
+    #[test]
+    fn the_demo_has_this_table(rt: HostRuntime) {
+        for (row, found) in demo_table().iter().zip(&WIND) {
+            assert_eq!(rt; found, row);
+        }
     }
 
     #[test]

@@ -2,3 +2,4 @@ pub mod Bounds
 pub mod Wraps
 pub mod Supports
 pub mod VertexSums
+pub mod Limits

@@ -2,3 +2,4 @@ pub mod Vectors
 pub mod Wrenches
 pub mod Cuts
 pub mod Vertices
+pub mod Chosen

@@ -1,7 +1,9 @@
-//! What the thrusters do to the vessel together: forces with their moments as vectors in space, and how far the sums of
-//! several lists of vectors reach. Nothing here overflows, and nothing takes memory.
+//! What the thrusters do to the vessel together: forces with their moments as vectors in space, and
+//! how far the sums of several lists of vectors reach. Nothing here overflows, and nothing takes
+//! memory.
 #![tactic(auto)]
 
+mod chosen;
 mod cut;
 mod lever;
 mod reach;
@@ -9,6 +11,7 @@ mod sums;
 mod vector;
 mod vertices;
 
+pub use chosen::sums_of;
 pub use cut::{CUT_PARTS_BELOW, Cut};
 pub use lever::{MOST_TURN, image};
 pub use reach::{greatest, support};

@@ -20,7 +20,8 @@ pub fn greatest(images: &[Vec3], w: Vec3) -> i128
     greatest
 }
 
-/// The greatest product of `w` with a sum of one image of each list, where the origin is an image of each list.
+/// The greatest product of `w` with a sum of one image of each list, where the origin is an image
+/// of each list.
 pub fn support(sums: &Sums, w: Vec3) -> i128
     ensures { result ≡ support_of sums.now w }
 {

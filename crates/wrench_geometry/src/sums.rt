@@ -7,8 +7,8 @@ use arrayvec::ArrayVec;
 use plant_model::limits::{MOST_PIECE_POINTS, MOST_THRUSTERS};
 use std::marker::Model;
 
-/// The images of a piece's points, in order: 0 to `MOST_PIECE_POINTS`. They stand for the hull of themselves and the
-/// origin. Contracts see the list.
+/// The images of a piece's points, in order: 0 to `MOST_PIECE_POINTS`. They stand for the hull of
+/// themselves and the origin. Contracts see the list.
 #[derive(Drop)]
 pub struct Images {
     points: ArrayVec<Vec3, MOST_PIECE_POINTS>,
@@ -64,8 +64,8 @@ impl Default for Images {
     }
 }
 
-/// The images of a chosen piece of each thruster, in the order of thrusters: 0 to `MOST_THRUSTERS` lists. Contracts see
-/// the list of lists.
+/// The images of a chosen piece of each thruster, in the order of thrusters: 0 to `MOST_THRUSTERS`
+/// lists. Contracts see the list of lists.
 #[derive(Drop)]
 pub struct Sums {
     lists: ArrayVec<Images, MOST_THRUSTERS>,

@@ -1,3 +1,5 @@
+ghost use Rattle.std.specs.Prelude.{◌≡◌};
+
 use super::*;
 use plant_model::thrust::Point;
 
@@ -27,7 +29,7 @@ fn after_a_loss() -> Sums {
 }
 
 fn at(x: i64, y: i64, z: i64) -> Vec3
-    ensures { (result.x ≡ x) × (result.y ≡ y) × (result.z ≡ z) }
+    ensures { result ≡ record { x = x; y = y; z = z } }
 {
     Vec3 { x, y, z }
 }

@@ -2,14 +2,15 @@
 ghost use Rattle.std.specs.Prelude.{◌≡◌, ◌⊎◌};
 ghost use Rattle.wrench_geometry.specs.Vectors.{IsVectorWithin, cross_of, difference_of, dot_of, opposite_of, sum_of};
 
-/// How far from 0 the components of one vector of a dot product may be, and those of both vectors of a difference.
+/// How far from 0 the components of one vector of a dot product may be, and those of both vectors
+/// of a difference.
 pub const MOST_PLAIN: i64 = 1 << 61;
 
 /// How far from 0 the components of the vectors of a cross product may be.
 pub const MOST_FACTOR: i64 = (1 << 31) - 1;
 
-/// A force with its moment, or a direction in which forces and moments are measured. Of a force, `x` and `y` are in kN
-/// and `z` is in kN·dm.
+/// A force with its moment, or a direction in which forces and moments are measured. Of a force,
+/// `x` and `y` are in kN and `z` is in kN·dm.
 #[derive(Clone, Copy, Debug, Default, PartialEq, Eq)]
 pub struct Vec3 {
     pub x: i64,

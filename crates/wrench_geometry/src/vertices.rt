@@ -1,4 +1,5 @@
-//! The farthest sum of lists in a direction, with the image that it has of each list, in numbers of 64 bits.
+//! The farthest sum of lists in a direction, with the image that it has of each list, in numbers of
+//! 64 bits.
 ghost use Rattle.std.specs.Prelude.{◌≡◌, ◌≤◌, length};
 ghost use Rattle.plant_model.specs.Numbers.{IsWithin};
 ghost use Rattle.wrench_geometry.specs.Vectors.{det_of, dot_of, greatest_of, support_of};
@@ -10,13 +11,15 @@ use crate::vector::{Vec3, cross, sum};
 use arrayvec::ArrayVec;
 use plant_model::limits::{MOST_FORCE, MOST_MOMENT, MOST_THRUSTERS};
 
-/// How far from 0 the first two components of a direction may be where its products are taken in 64 bits.
+/// How far from 0 the first two components of a direction may be where its products are taken in 64
+/// bits.
 pub const SHORT_FORCE: i64 = 1 << 44;
 
 /// How far from 0 the third component of such a direction may be.
 pub const SHORT_MOMENT: i64 = 1 << 33;
 
-/// A sum of one image of each list, with the places of these images. A list's length is the place of the origin.
+/// A sum of one image of each list, with the places of these images. A list's length is the place
+/// of the origin.
 #[derive(Debug, Drop)]
 pub struct Vertex {
     pub point: Vec3,
@@ -33,7 +36,8 @@ pub fn product(w: Vec3, point: Vec3) -> i64
     w.x * point.x + w.y * point.y + w.z * point.z
 }
 
-/// The greatest determinant of three sums of images, either way: of its six products each has two forces and a moment.
+/// The greatest determinant of three sums of images, either way: of its six products each has two
+/// forces and a moment.
 pub const MOST_DETERMINANT: i64 = 6 * MOST_FORCE as i64 * MOST_FORCE as i64 * MOST_MOMENT as i64;
 
 /// The determinant of three sums of images.
@@ -54,8 +58,8 @@ fn image_at(images: &[Vec3], place: usize) -> Vec3
     images.get(place).copied().unwrap_or_default()
 }
 
-/// The place of the image that is farthest along `w`: that of the origin where no image has a product above 0, else the
-/// first such place.
+/// The place of the image that is farthest along `w`: that of the origin where no image has a
+/// product above 0, else the first such place.
 fn farthest_place(images: &[Vec3], w: Vec3) -> usize
     requires images { AreImages images.now }
     requires short { IsShort w }
@@ -74,8 +78,9 @@ fn farthest_place(images: &[Vec3], w: Vec3) -> usize
     place
 }
 
-/// The sum that is farthest along `w`, which is within `SHORT_FORCE` and `SHORT_MOMENT`. Of a list of which
-/// several images are farthest the origin is taken where it is one of them, else the first.
+/// The sum that is farthest along `w`, which is within `SHORT_FORCE` and `SHORT_MOMENT`. Of a list
+/// of which several images are farthest the origin is taken where it is one of them, else the
+/// first.
 pub fn farthest(sums: &Sums, w: Vec3) -> Vertex
     requires { IsShort w }
     ensures vertex { IsVertex sums.now result }

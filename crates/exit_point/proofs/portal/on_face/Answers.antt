@@ -13,7 +13,11 @@ returns c =
     let e = c.args.corners.now.third.point in
     let shares = c.in_ok-shares.ensures in
     let yes : IsTrue true = search rules in
-    let q : to_z w64 (of_z w64 c.total.result) ≡ total_of c.in_ok-shares.shares = to_z-of_z w64 _ (search rules) ∙ c.total.ensures in
-    let t : to_z w64 (of_z w64 c.determinant.result) ≡ det_of a b e = to_z-of_z w64 _ (search rules) ∙ c.determinant.ensures.value in
-    exit_on_face c.args.sums.now c.args.d _ a b e c.in_ok-shares.shares c.in_ok-cut.ensures.cut shares.within shares.of_demand shares.some
-    (c.if-not-touches.ensures.0 yes) (c.if-not-touches-2.ensures.0 yes) (c.if-not-touches-3.ensures.0 yes) q t c.weights.ensures.weights c.weights.ensures.sum
+    let q : to_z w64 (of_z w64 c.total.result) ≡ total_of c.in_ok-shares.shares =
+    to_z-of_z w64 _ (search rules) ∙ c.total.ensures in
+    let t : to_z w64 (of_z w64 c.determinant.result) ≡ det_of a b e = to_z-of_z w64 _ (search rules)
+    ∙ c.determinant.ensures.value in
+    exit_on_face c.args.sums.now c.args.d _ a b e c.in_ok-shares.shares c.in_ok-cut.ensures.cut
+    shares.within shares.of_demand shares.some
+    (c.if-not-touches.ensures.0 yes) (c.if-not-touches-2.ensures.0 yes)
+    (c.if-not-touches-3.ensures.0 yes) q t c.weights.ensures.weights c.weights.ensures.sum

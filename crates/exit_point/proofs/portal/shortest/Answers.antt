@@ -14,9 +14,12 @@ returns-clause-short c =
     let in_x : to_z w64 (of_z w64 c.args.w.x) ≡ c.args.w.x = to_z-of_z w64 _ (search rules) in
     let in_y : to_z w64 (of_z w64 c.args.w.y) ≡ c.args.w.y = to_z-of_z w64 _ (search rules) in
     let in_z : to_z w64 (of_z w64 c.args.w.z) ≡ c.args.w.z = to_z-of_z w64 _ (search rules) in
-    let x : to_z w64 (of_z w64 c.div_euclid.result) ≡ int_div_euclid c.args.w.x common = to_z-of_z w64 _ (search rules) ∙ c.div_euclid.ensures ∙ ap₂ int_div_euclid in_x g in
-    let y : to_z w64 (of_z w64 c.div_euclid-2.result) ≡ int_div_euclid c.args.w.y common = to_z-of_z w64 _ (search rules) ∙ c.div_euclid-2.ensures ∙ ap₂ int_div_euclid in_y g in
-    let z : to_z w64 (of_z w64 c.div_euclid-3.result) ≡ int_div_euclid c.args.w.z common = to_z-of_z w64 _ (search rules) ∙ c.div_euclid-3.ensures ∙ ap₂ int_div_euclid in_z g in
+    let x : to_z w64 (of_z w64 c.div_euclid.result) ≡ int_div_euclid c.args.w.x common =
+    to_z-of_z w64 _ (search rules) ∙ c.div_euclid.ensures ∙ ap₂ int_div_euclid in_x g in
+    let y : to_z w64 (of_z w64 c.div_euclid-2.result) ≡ int_div_euclid c.args.w.y common =
+    to_z-of_z w64 _ (search rules) ∙ c.div_euclid-2.ensures ∙ ap₂ int_div_euclid in_y g in
+    let z : to_z w64 (of_z w64 c.div_euclid-3.result) ≡ int_div_euclid c.args.w.z common =
+    to_z-of_z w64 _ (search rules) ∙ c.div_euclid-3.ensures ∙ ap₂ int_div_euclid in_z g in
     record {
       x = rw x (quotient_within _ c.args.w.x common divides.x from_1 c.requires.x);
       y = rw y (quotient_within _ c.args.w.y common divides.y from_1 c.requires.y);
@@ -32,9 +35,12 @@ returns-clause-multiple c =
     let in_x : to_z w64 (of_z w64 c.args.w.x) ≡ c.args.w.x = to_z-of_z w64 _ (search rules) in
     let in_y : to_z w64 (of_z w64 c.args.w.y) ≡ c.args.w.y = to_z-of_z w64 _ (search rules) in
     let in_z : to_z w64 (of_z w64 c.args.w.z) ≡ c.args.w.z = to_z-of_z w64 _ (search rules) in
-    let x : to_z w64 (of_z w64 c.div_euclid.result) ≡ int_div_euclid c.args.w.x common = to_z-of_z w64 _ (search rules) ∙ c.div_euclid.ensures ∙ ap₂ int_div_euclid in_x g in
-    let y : to_z w64 (of_z w64 c.div_euclid-2.result) ≡ int_div_euclid c.args.w.y common = to_z-of_z w64 _ (search rules) ∙ c.div_euclid-2.ensures ∙ ap₂ int_div_euclid in_y g in
-    let z : to_z w64 (of_z w64 c.div_euclid-3.result) ≡ int_div_euclid c.args.w.z common = to_z-of_z w64 _ (search rules) ∙ c.div_euclid-3.ensures ∙ ap₂ int_div_euclid in_z g in (
+    let x : to_z w64 (of_z w64 c.div_euclid.result) ≡ int_div_euclid c.args.w.x common =
+    to_z-of_z w64 _ (search rules) ∙ c.div_euclid.ensures ∙ ap₂ int_div_euclid in_x g in
+    let y : to_z w64 (of_z w64 c.div_euclid-2.result) ≡ int_div_euclid c.args.w.y common =
+    to_z-of_z w64 _ (search rules) ∙ c.div_euclid-2.ensures ∙ ap₂ int_div_euclid in_y g in
+    let z : to_z w64 (of_z w64 c.div_euclid-3.result) ≡ int_div_euclid c.args.w.z common =
+    to_z-of_z w64 _ (search rules) ∙ c.div_euclid-3.ensures ∙ ap₂ int_div_euclid in_z g in (
       common,
       from_1,
       same_vector

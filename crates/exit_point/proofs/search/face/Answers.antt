@@ -28,4 +28,5 @@ replaced-corners-requires-clause-third c = c.loop.invariant.third.within
 pub loop-preserved : goal.loop-preserved
 loop-preserved c =
     let fourth = c.farthest-fourth.ensures in
-    corners_replaced _ _ _ _ c.loop.invariant (record { chosen = fourth.vertex; within = fourth.within }) c.replaced-corners.ensures
+    corners_replaced _ _ _ _ c.loop.invariant
+    (record { chosen = fourth.vertex; within = fourth.within }) c.replaced-corners.ensures

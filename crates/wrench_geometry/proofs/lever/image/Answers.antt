@@ -6,7 +6,14 @@ pub overflow_sub-result : goal.overflow_sub-result
 overflow_sub-result c = fits (search machine depth 40) tt
 
 pub returns-clause-value : goal.returns-clause-value
-returns-clause-value c = same_vector (strip (search machine depth 40) tt) (strip (search machine depth 40) tt) (strip (search machine depth 40) tt)
+returns-clause-value c = same_vector (strip (search machine depth 40) tt)
+    (strip (search machine depth 40) tt) (strip (search machine depth 40) tt)
 
 pub returns-clause-within : goal.returns-clause-within
-returns-clause-within c = record { x = within (search machine depth 40) tt; y = within (search machine depth 40) tt; z = within (search machine depth 40) tt }
+returns-clause-within c =
+    record {
+      x = within (search machine depth 40) tt;
+      y = within (search machine depth 40) tt;
+      z =
+          within (search machine depth 40) tt;
+    }

@@ -3,4 +3,5 @@ use Rattle.wrench_geometry.specs.Vectors.{greatest_of}
 use Rattle.wrench_geometry.proofs.reach.greatest.Given as goal
 
 abbrev pub invariant-loop-image : goal.invariant-loop-image
-invariant-loop-image l = (l.greatest ≡ greatest_of l.w (take l.image-index l.images)) × (pos 0 ≤ℤ l.greatest) × (l.greatest ≤ℤ pos (2 ^ 87))
+invariant-loop-image l = (l.greatest ≡ greatest_of l.w (take l.image-index l.images)) ×
+    (pos 0 ≤ℤ l.greatest) × (l.greatest ≤ℤ pos (2 ^ 87))

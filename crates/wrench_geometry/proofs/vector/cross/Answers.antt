@@ -34,4 +34,5 @@ pub returns : goal.returns
 returns c =
     let a = c.requires.a in
     let b = c.requires.b in
-    same_vector (crossed_is _ _ _ _ a.y b.z a.z b.y) (crossed_is _ _ _ _ a.z b.x a.x b.z) (crossed_is _ _ _ _ a.x b.y a.y b.x)
+    same_vector (crossed_is _ _ _ _ a.y b.z a.z b.y) (crossed_is _ _ _ _ a.z b.x a.x b.z)
+    (crossed_is _ _ _ _ a.x b.y a.y b.x)

@@ -3,4 +3,5 @@ use Rattle.wrench_geometry.proofs.Bounds.{same_vector}
 use Rattle.wrench_geometry.proofs.vector.sum.Goals as goal
 
 pub returns : goal.returns
-returns c = same_vector (strip (search machine depth 40) tt) (strip (search machine depth 40) tt) (strip (search machine depth 40) tt)
+returns c = same_vector (strip (search machine depth 40) tt) (strip (search machine depth 40) tt)
+    (strip (search machine depth 40) tt)

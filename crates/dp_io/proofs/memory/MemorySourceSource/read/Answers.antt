@@ -7,5 +7,6 @@ pub returns-clause-moved : goal.returns-clause-moved
 returns-clause-moved c =
     let copied = c.copy_from_slice.ensures.after in
     let all_bytes = c.deref.ensures.value in
-    let moved = left-moved c.self.inside.bytes.items c.args.into.now c.copy_from_slice.new.self c.self.inside.given c.min-count.result (cc) (grind (arith, common_steps)) in
+    let moved = left-moved c.self.inside.bytes.items c.args.into.now c.copy_from_slice.new.self
+    c.self.inside.given c.min-count.result (cc) (grind (arith, common_steps)) in
     rw (← c.self.view_is) (_, refl, moved)

@@ -1,0 +1,4 @@
+pub mod Choices
+pub mod Exact
+pub mod Pieces
+pub mod Scaling

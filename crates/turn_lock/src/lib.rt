@@ -1,0 +1,15 @@
+//! A ticket lock round one value that keeps a list of entries. Callers take turns by passes, each of
+//! which shows a front of that one list.
+#![tactic(auto)]
+
+mod keeps;
+mod pass;
+mod plays;
+#[cfg(test)]
+mod tests;
+mod turn;
+mod view;
+
+pub use keeps::Keeps;
+pub use pass::Pass;
+pub use turn::Turn;
