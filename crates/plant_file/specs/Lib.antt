@@ -1,1 +1,5 @@
+pub mod Documents
+pub mod Faults
+pub mod Keys
+pub mod Kinds
 pub mod Texts

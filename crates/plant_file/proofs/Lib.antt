@@ -1,0 +1,4 @@
+pub mod ArrayLemmas
+pub mod JudgedLemmas
+pub mod ThresholdLemmas
+pub mod Values
