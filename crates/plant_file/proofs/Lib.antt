@@ -1,4 +1,6 @@
 pub mod ArrayLemmas
 pub mod JudgedLemmas
+pub mod KeyLemmas
+pub mod TextLemmas
 pub mod ThresholdLemmas
 pub mod Values

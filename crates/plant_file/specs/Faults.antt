@@ -1,5 +1,5 @@
 -- The faults of a document, in the order in which they are judged.
-use Rattle.std.specs.Prelude.{ℕ, List, [], ◌∷◌, ◌++◌, length, Bool, true, false, Option, Some, None, Result, Ok, Err, ◌==◌, nat_lt, nat_le, if◌then◌else◌, pos, int_le}
+use Rattle.std.specs.Prelude.{ℕ, List, [], ◌∷◌, ◌++◌, length, Bool, true, false, Option, Some, None, Result, Ok, Err, ◌==◌, nat_lt, nat_le, if◌then◌else◌, pos, int_le, ◌<◌, ◌^◌}
 use Rattle.std.specs.List.{flat_map, list_all, list_any, enumerate_from}
 use Rattle.std.specs.Str.{bytes_eq}
 use Rattle.toml.specs.Data.{Data, array, Members, as_table, get_member}
@@ -92,12 +92,15 @@ array_faults part count None = if nat_le 1 count.fewest then MissingKey (path_to
 array_faults part count (Some d) =
     if is_array_of_tables d then count_faults part count (length (list_in d)) else WrongKind (path_to part 0 Whole) ∷ []
 
--- the elements of a part that is an array of tables
+-- the elements of a list that a key holds
 abbrev pub elements_in : Option Data → List Data
 elements_in None = []
 elements_in (Some d) = list_in d
 
+-- the elements of a part that is an array of tables; none of another
 abbrev pub elements_at : Part → Members → List Data
+elements_at Top doc = []
+elements_at Controller doc = []
 elements_at part doc = elements_in (get_member (part_text part) doc)
 
 -- the faults of elements that are tables, each with its place
@@ -121,20 +124,30 @@ abbrev pub faults_of_keys : Format → Members → List PlantFault
 faults_of_keys format doc =
     table_faults Top 0 (rows format Top) doc ++ controller_faults format doc ++ flat_map (part_faults format doc) arrays
 
+-- a table with no other keys than these
+abbrev pub has_known : List (List ℕ) → Members → Bool
+has_known known ms = list_all (λ key. list_any (bytes_eq key) known) (keys ms)
+
+abbrev pub unknown_unless : Bool → Part → ℕ → List PlantFault
+unknown_unless good part index = if good then [] else UnknownKey (path_to part index Whole) ∷ []
+
 -- a table with a key that it can't have
 abbrev pub unknown_faults : Part → ℕ → List (List ℕ) → Members → List PlantFault
-unknown_faults part index known ms =
-    if list_all (λ k. list_any (bytes_eq k) known) (keys ms) then [] else UnknownKey (path_to part index Whole) ∷ []
+unknown_faults part index known ms = unknown_unless (has_known known ms) part index
 
-abbrev pub unknown_in : Part → ℕ → List (List ℕ) → Option Data → List PlantFault
-unknown_in part index known None = []
-unknown_in part index known (Some d) = in_element (unknown_faults part index known) d
+-- the same in what a key holds, where it is a table
+abbrev pub unknown_below : (Members → List PlantFault) → Option Data → List PlantFault
+unknown_below faults None = []
+unknown_below faults (Some d) = in_element faults d
+
+abbrev pub unknown_in_axis : Format → Members → ℕ → List PlantFault
+unknown_in_axis format controller index =
+    unknown_below (unknown_faults Controller index (row_keys (rows format Controller))) (get_member (axis_text index) controller)
 
 -- the table `controller` and its three tables
 abbrev pub unknown_in_controller : Format → Members → List PlantFault
 unknown_in_controller format controller =
-    unknown_faults Controller 0 axis_keys controller
-    ++ flat_map (λ index. unknown_in Controller index (row_keys (rows format Controller)) (get_member (axis_text index) controller)) axes
+    unknown_faults Controller 0 axis_keys controller ++ flat_map (unknown_in_axis format controller) axes
 
 abbrev pub unknown_faults_at : Part → List Row → ℕ → Members → List PlantFault
 unknown_faults_at part rows index ms = unknown_faults part index (row_keys rows) ms
@@ -143,13 +156,13 @@ abbrev pub unknown_in_part : Format → Members → Part → List PlantFault
 unknown_in_part format doc part =
     faults_of_elements (unknown_faults_at part (rows format part)) (enumerate_from 0 (elements_at part doc))
 
-abbrev pub controller_in : Option Data → (Members → List PlantFault) → List PlantFault
-controller_in None faults = []
-controller_in (Some d) faults = in_element faults d
-
 -- keys that a table can't have, table by table
 abbrev pub faults_of_unknown_keys : Format → Members → List PlantFault
 faults_of_unknown_keys format doc =
     unknown_faults Top 0 top_keys doc
-    ++ controller_in (get_member (part_text Controller) doc) (unknown_in_controller format)
+    ++ unknown_below (unknown_in_controller format) (get_member (part_text Controller) doc)
     ++ flat_map (unknown_in_part format doc) arrays
+
+-- an index of a table fits a path
+pub record HasShortArrays (doc : Members) : Type 0 where
+  pub short : (part : Part) → length (elements_at part doc) < 2 ^ 32

@@ -23,7 +23,7 @@ pub fn format_of(document: &Table) -> Format
 }
 
 /// The place of a whole table.
-fn whole(part: Part, index: u32) -> Path
+pub fn whole(part: Part, index: u32) -> Path
     ensures { result ≡ path_to part index Key.Whole }
 {
     Path {
@@ -159,10 +159,13 @@ fn judge_elements(elements: &[Value], part: Part, rows: &[Row]) -> Result<(), Pl
     Ok(())
 }
 
-/// The elements of an array of tables. None where it is missing.
-fn elements<'a>(document: &'a Table, part: Part) -> &'a [Value]
+/// The elements of an array of tables. None where it is missing, and for a part that is no array of tables.
+pub fn elements(document: &Table, part: Part) -> &[Value]
     ensures { elements_at part (table_view document.now) ≡ map view result.now }
 {
+    if part == Part::Top || part == Part::Controller {
+        return &[];
+    }
     match value_at(document, part.text()) {
         Some(value) => list(value),
         None => &[],

@@ -6,5 +6,11 @@ mod fault;
 mod judging;
 mod key;
 mod kind;
+mod reading;
+mod unknown;
 
 pub use fault::{Key, Part, Path, PlantFault};
+pub use reading::read_document;
+
+#[cfg(test)]
+mod tests;

@@ -3,10 +3,8 @@ use Rattle.std.proofs.lemmas.List.{length-map}
 use Rattle.std.specs.List.{enumerate_from}
 use Rattle.toml.specs.Data.{get_member}
 use Rattle.toml.specs.View.{table_view, view}
-use Rattle.plant_file.specs.Faults.{array_faults, elements_faults, elements_in, faults_of_elements, judged, table_faults_at}
-use Rattle.plant_file.specs.Keys.{count_of}
-use Rattle.plant_file.specs.Texts.{part_text}
-use Rattle.plant_file.proofs.ArrayLemmas.{count_of-small, length-elements_in}
+use Rattle.plant_file.specs.Faults.{array_faults, elements_at, faults_of_elements, judged, table_faults_at}
+use Rattle.plant_file.proofs.ArrayLemmas.{length-elements_at}
 use Rattle.plant_file.proofs.JudgedLemmas.{judged_failed, judged_past}
 use Rattle.plant_file.proofs.judging.judge_part.Goals as goal
 
@@ -20,10 +18,8 @@ pub judge_elements-requires : goal.judge_elements-requires
 judge_elements-requires c =
     let array = c.judge_array.ensures
     ∙ ap₂ (λ count held. judged (array_faults c.args.part count held)) c.count_of.ensures (c.value_at.ensures ∙ ap (λ key. get_member key (table_view c.args.document.now)) c.text.ensures) in
-    let held = get_member (part_text c.args.part) (table_view c.args.document.now) in
-    let few = length-elements_in c.args.part (count_of c.args.format c.args.part) held (sym array ∙ c.in_ok-judge_array.was) in
-    let same : length (elements_in held) ≡ length c.elements.result.now = ap length c.elements.ensures ∙ length-map c.elements.result.now view in
-    omega (arith, count_of-small c.args.format c.args.part)
+    let same : length (elements_at c.args.part (table_view c.args.document.now)) ≡ length c.elements.result.now = ap length c.elements.ensures ∙ length-map c.elements.result.now view in
+    omega (arith, length-elements_at c.args.format c.args.part (table_view c.args.document.now) (sym array ∙ c.in_ok-judge_array.was))
 
 pub returns : goal.returns
 returns c =
