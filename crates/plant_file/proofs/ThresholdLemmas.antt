@@ -1,5 +1,5 @@
 -- Thresholds, taken one by one.
-use Rattle.std.proofs.Common.{◌≡◌, ℕ, List, ◌∷◌, true, false, ℤ, pos, negsuc, ◌≤ℤ◌, ◌<ℤ◌, arith}
+use Rattle.std.proofs.Common.{◌≡◌, ℕ, List, ◌∷◌, false, ℤ, pos, negsuc, ◌≤ℤ◌, ◌<ℤ◌, arith}
 use Rattle.std.proofs.lemmas.Bool.Decides.{nat_tests}
 use Rattle.std.proofs.lemmas.Int.{ints}
 use Rattle.plant_model.specs.declared.limits.TheConstants.{MOST_THRESHOLD}

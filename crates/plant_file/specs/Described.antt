@@ -1,5 +1,5 @@
 -- The plant that a document without faults describes.
-use Rattle.std.specs.Prelude.{ℕ, ◌+◌, ◌-◌, ◌*◌, ◌^◌, ℤ, pos, List, [], ◌∷◌, ◌++◌, length, map, replicate, Bool, true, false, nat_lt, if◌then◌else◌, Option, Some, None, option_map, option_and_then, unwrap_or, slice_get, sum}
+use Rattle.std.specs.Prelude.{ℕ, ◌+◌, ◌-◌, ◌^◌, pos, List, [], ◌++◌, length, map, replicate, Bool, false, nat_lt, if◌then◌else◌, Option, option_map, option_and_then, unwrap_or, slice_get, sum}
 use Rattle.std.specs.List.{position_or_len}
 use Rattle.std.specs.Str.{bytes_eq}
 use Rattle.plant_model.specs.Rings.{cut}

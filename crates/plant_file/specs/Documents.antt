@@ -1,5 +1,5 @@
 -- What stands in a document, with something in its place where it doesn't.
-use Rattle.std.specs.Prelude.{ℕ, ℤ, pos, negsuc, List, [], ◌∷◌, Bool, true, false, is_some, Option, Some, None, unwrap_or, option_map, slice_get}
+use Rattle.std.specs.Prelude.{ℕ, ℤ, pos, negsuc, List, [], ◌∷◌, Bool, false, is_some, unwrap_or, option_map, slice_get}
 use Rattle.toml.specs.Data.{Data, array, Items, no_items, item, Members, no_members, member, as_str, as_integer, as_bool, as_table}
 
 -- the elements of a list

@@ -1,5 +1,5 @@
 -- The table of keys: which keys a table of each part of the file has, and what each holds.
-use Rattle.std.specs.Prelude.{ℕ, ℤ, pos, List, [], ◌∷◌, ◌++◌, ◌-◌, map, Bool, true, false}
+use Rattle.std.specs.Prelude.{ℕ, ℤ, pos, List, [], ◌∷◌, ◌++◌, ◌-◌, map, true, false}
 use Rattle.plant_model.specs.declared.limits.TheConstants.{AXES, FARTHEST_LEVER, MOST_GAIN, MOST_GENERATORS, MOST_GROUPS, MOST_GROUPS_OF_FORMAT_1, MOST_MEMBERS, MOST_MOMENT, MOST_PIECES, MOST_POWER, MOST_SECTIONS, MOST_SUM_LIMIT, MOST_THRUST, MOST_THRUSTERS, MOST_TIES}
 use Rattle.plant_file.specs.Kinds.{exactly, from_to, span, within}
 use Rattle.plant_file.specs.Texts.{part_text, key_text, axis_text}

@@ -1,4 +1,4 @@
-use Rattle.std.proofs.Common.{◌≡◌, map, Some, sym, ◌∙◌, ap}
+use Rattle.std.proofs.Common.{map, sym, ◌∙◌, ap}
 use Rattle.toml.specs.View.{view}
 use Rattle.plant_file.proofs.Values.{elements-items_of, list_in-as_array}
 use Rattle.plant_file.proofs.document.list.Goals as goal

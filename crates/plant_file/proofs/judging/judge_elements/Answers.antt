@@ -1,10 +1,7 @@
-use Rattle.std.proofs.Common.{◌≡◌, ◌<◌, ◌≤◌, ℕ, Ok, Err, length, get_or, map, ap, sym, ◌∙◌, arith}
+use Rattle.std.proofs.Common.{◌≡◌, ◌<◌, ◌≤◌, length, get_or, map, ap, sym, ◌∙◌, arith}
 use Rattle.std.specs.List.{enumerate_from}
-use Rattle.toml.specs.Data.{Data}
 use Rattle.toml.specs.View.{view}
-use Rattle.toml.specs.declared.value.Value.{Value}
-use Rattle.plant_file.specs.declared.fault.PlantFault.{PlantFault}
-use Rattle.plant_file.specs.Faults.{in_element, judged, table_faults_at}
+use Rattle.plant_file.specs.Faults.{in_element, table_faults_at}
 use Rattle.plant_file.proofs.ArrayLemmas.{get_or-placed, length-placed}
 use Rattle.plant_file.proofs.JudgedLemmas.{walk_failed, walk_goes_on, walk_ended}
 use Rattle.plant_file.proofs.judging.judge_elements.Goals as goal
