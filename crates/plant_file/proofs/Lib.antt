@@ -4,3 +4,4 @@ pub mod KeyLemmas
 pub mod TextLemmas
 pub mod ThresholdLemmas
 pub mod Values
+mod WorkedDocuments
