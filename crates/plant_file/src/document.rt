@@ -1,0 +1,55 @@
+//! What stands in a document.
+ghost use Rattle.std.specs.Prelude.{◌≡◌, map, option_map};
+ghost use Rattle.toml.specs.Data.{get_member};
+ghost use Rattle.toml.specs.View.{view, table_view};
+ghost use Rattle.plant_file.specs.Documents.{list_in, number_in, number_at, text_in, truth_in};
+
+use toml::{Table, Value};
+
+/// What a key of a table holds.
+pub fn value_at<'a>(table: &'a Table, key: &str) -> Option<&'a Value>
+    ensures { option_map (λ value. view value.now) result ≡ get_member key.now (table_view table.now) }
+{
+    table.get(key)
+}
+
+/// The elements of a list. None where the value is no list.
+pub fn list(value: &Value) -> &[Value]
+    ensures { list_in (view value.now) ≡ map view result.now }
+{
+    match value.as_array() {
+        Some(values) => values.as_slice(),
+        None => &[],
+    }
+}
+
+/// The whole number that the value is. 0 where it is none.
+pub fn number(value: &Value) -> i64
+    ensures { result ≡ number_in (view value.now) }
+{
+    value.as_integer().unwrap_or(0)
+}
+
+/// The text that the value is. An empty one where it is none.
+pub fn text(value: &Value) -> &str
+    ensures { result.now ≡ text_in (view value.now) }
+{
+    value.as_str().unwrap_or("")
+}
+
+/// The truth value that the value is. False where it is none.
+pub fn truth(value: &Value) -> bool
+    ensures { result ≡ truth_in (view value.now) }
+{
+    value.as_bool().unwrap_or(false)
+}
+
+/// The whole number at a place of a list. 0 where there is none.
+pub fn number_at(value: &Value, place: usize) -> i64
+    ensures { result ≡ number_at place (view value.now) }
+{
+    match list(value).get(place) {
+        Some(element) => number(element),
+        None => 0,
+    }
+}
