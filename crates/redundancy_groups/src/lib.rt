@@ -2,6 +2,8 @@
 //! then. Nothing here takes memory.
 #![tactic(auto)]
 
+mod fixed;
 mod stands;
 
+pub use fixed::fixed_load;
 pub use stands::standing;
