@@ -6,7 +6,6 @@ use Rattle.plant_model.specs.declared.limits.TheConstants.{FARTHEST_LEVER}
 use Rattle.plant_model.specs.declared.parts.Thruster.{Thruster}
 use Rattle.plant_model.specs.declared.plant.Parts.{Parts}
 use Rattle.plant_model.specs.declared.thrust.Point.{Point}
-use Rattle.plant_model.specs.declared.wrench.Load.{Load}
 use Rattle.plant_model.specs.Rings.{origin}
 use Rattle.wrench_geometry.specs.Wrenches.{IsPointWithin}
 use Rattle.wrench_geometry.proofs.Limits.{lever_within}
