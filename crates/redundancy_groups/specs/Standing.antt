@@ -1,5 +1,6 @@
 -- How a plant stands after a loss.
-use Rattle.std.specs.Prelude.{ℕ, ◌<◌, List, [], length, map, slice_get, slice_index_or, Option, Some, None}
+use Rattle.std.specs.Prelude.{ℕ, ◌<◌, List, [], length, map, slice_get, slice_index_or}
+use Rattle.std.specs.Prelude.{Option, Some, None}
 use Rattle.std.specs.Prelude.{Bool, true, false, not, ◌&&◌, nat_lt}
 use Rattle.std.specs.List.{list_any, range_with_len}
 use Rattle.plant_model.specs.declared.limits.TheConstants.{MOST_GENERATORS, MOST_SECTIONS}

@@ -2,8 +2,9 @@
 ghost use Rattle.std.specs.Prelude.{◌≡◌, ◌<◌};
 ghost use Rattle.std.specs.List.{list_any};
 ghost use Rattle.plant_model.specs.Plants.{member_eq};
-ghost use Rattle.redundancy_groups.specs.Standing.{IsLossOf, at_places, is_closed_after, is_live_after};
-ghost use Rattle.redundancy_groups.specs.Standing.{is_lost, is_selected_after, runs_after, standing_of};
+ghost use Rattle.redundancy_groups.specs.Standing.{IsLossOf, at_places, is_closed_after};
+ghost use Rattle.redundancy_groups.specs.Standing.{is_live_after, is_lost, is_selected_after};
+ghost use Rattle.redundancy_groups.specs.Standing.{runs_after, standing_of};
 
 use plant_model::limits::{MOST_GENERATORS, MOST_SECTIONS, MOST_THRUSTERS, MOST_TIES};
 use plant_model::parts::Member;
