@@ -6,3 +6,4 @@ pub mod Supports
 pub mod Duality
 pub mod Choosing
 pub mod Places
+pub mod Beside

@@ -18,7 +18,7 @@ abbrev pub bounded : {most z : ℤ} → IsWithin most z → Strips z
 bounded {most} {z} w = strip_known z (record { bound = neg_ℤ most; holds = w.low }) (record { bound = most; holds = w.high })
 
 -- a coordinate of a point of the type
-coordinate : (z : ℤ) → SFits w32 z → IsWithin FARTHEST z
+pub coordinate : (z : ℤ) → SFits w32 z → IsWithin FARTHEST z
 coordinate z h =
     let low = signed_from w32 z h in
     let high = signed_to w32 z h in

@@ -10,7 +10,7 @@ ghost use Rattle.certificate.specs.Sides.{IsReached, place_of};
 use plant_model::thrust::{Piece, Point, Thrust};
 
 /// The farthest coordinate of a point of the type, either way.
-const FARTHEST: i128 = 1 << 31;
+pub(crate) const FARTHEST: i128 = 1 << 31;
 
 /// The farthest coordinate of a thrust that over some denominator is no farther than a point may be.
 const FARTHEST_THRUST: i128 = FARTHEST * i64::MAX as i128;

@@ -2,12 +2,14 @@
 #![tactic(auto)]
 
 mod cut;
+mod holds;
 mod hull;
 mod law;
 mod lost;
 mod outcome;
 
 pub use cut::check_cut;
+pub use holds::lies_beside;
 pub use hull::lies;
 pub use law::outcomes_tell;
 pub use lost::judge_lost;
