@@ -4,3 +4,5 @@ pub mod Rows
 pub mod ListRows
 pub mod Least
 pub mod Divided
+pub mod Faces
+pub mod Planes
