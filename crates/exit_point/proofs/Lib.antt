@@ -6,3 +6,4 @@ pub mod Least
 pub mod Divided
 pub mod Faces
 pub mod Planes
+pub mod Shares

@@ -10,7 +10,7 @@ use Rattle.wrench_geometry.specs.Vectors.{cross_of, det_of, dot_of, scaled_by, s
 -- ---- a vector that is perpendicular to two others is along their normal
 
 -- Lagrange's identity, where x is perpendicular to w and u, and g is their normal
-along_normal : (w u x e : Vec3) → dot_of w x ≡ pos 0 → dot_of u x ≡ pos 0 →
+pub along_normal : (w u x e : Vec3) → dot_of w x ≡ pos 0 → dot_of u x ≡ pos 0 →
     dot_of (cross_of w u) (cross_of w u) *ℤ dot_of e x ≡ dot_of (cross_of w u) x *ℤ dot_of e
     (cross_of w u)
 along_normal w u x e flat level =
@@ -110,7 +110,7 @@ parts_of k v m e s = sum_of (sum_of (scaled_by k v) (scaled_by m e)) s
 abbrev pub edge_point : Vec3 → Vec3 → Vec3 → Vec3
 edge_point v e l = sum_of (sum_of v e) l
 
-det_scaled : (n : ℤ) (d a b : Vec3) → det_of (scaled_by n d) a b ≡ n *ℤ det_of d a b
+pub det_scaled : (n : ℤ) (d a b : Vec3) → det_of (scaled_by n d) a b ≡ n *ℤ det_of d a b
 det_scaled n d a b =
     ring (n ∷ d.x ∷ d.y ∷ d.z ∷ a.x ∷ a.y ∷ a.z ∷ b.x ∷ b.y ∷ b.z ∷ [])
     (search reads depth 40) refl
@@ -120,7 +120,7 @@ det_sum x y a b =
     ring (x.x ∷ x.y ∷ x.z ∷ y.x ∷ y.y ∷ y.z ∷ a.x ∷ a.y ∷ a.z ∷ b.x ∷ b.y ∷ b.z ∷ [])
     (search reads depth 40) refl
 
-det_parts : (k : ℤ) (v : Vec3) (m : ℤ) (e s a b : Vec3) →
+pub det_parts : (k : ℤ) (v : Vec3) (m : ℤ) (e s a b : Vec3) →
     det_of (parts_of k v m e s) a b ≡ k *ℤ det_of v a b +ℤ m *ℤ det_of e a b +ℤ det_of s a b
 det_parts k v m e s a b =
     det_sum (sum_of (scaled_by k v) (scaled_by m e)) s a b
@@ -128,19 +128,19 @@ det_parts k v m e s a b =
     (det_sum (scaled_by k v) (scaled_by m e) a b
     ∙ ap₂ ◌+ℤ◌ (det_scaled k v a b) (det_scaled m e a b))
 
-first_of_v : (v e l r : Vec3) → det_of v (edge_point v e l) (edge_point v e r) ≡
+pub first_of_v : (v e l r : Vec3) → det_of v (edge_point v e l) (edge_point v e r) ≡
     det_of v e r -ℤ det_of v e l +ℤ dot_of v (cross_of l r)
 first_of_v v e l r =
     ring (v.x ∷ v.y ∷ v.z ∷ e.x ∷ e.y ∷ e.z ∷ l.x ∷ l.y ∷ l.z ∷ r.x ∷ r.y ∷ r.z ∷ [])
     (search reads depth 40) refl
 
-first_of_e : (v e l r : Vec3) → det_of e (edge_point v e l) (edge_point v e r) ≡
+pub first_of_e : (v e l r : Vec3) → det_of e (edge_point v e l) (edge_point v e r) ≡
     det_of v e l -ℤ det_of v e r +ℤ dot_of e (cross_of l r)
 first_of_e v e l r =
     ring (v.x ∷ v.y ∷ v.z ∷ e.x ∷ e.y ∷ e.z ∷ l.x ∷ l.y ∷ l.z ∷ r.x ∷ r.y ∷ r.z ∷ [])
     (search reads depth 40) refl
 
-first_of_s : (v e s l r : Vec3) → det_of s (edge_point v e l) (edge_point v e r) ≡
+pub first_of_s : (v e s l r : Vec3) → det_of s (edge_point v e l) (edge_point v e r) ≡
     dot_of (sum_of v e) (cross_of s l) -ℤ dot_of (sum_of v e) (cross_of s r) +ℤ
     dot_of s (cross_of l r)
 first_of_s v e s l r = generic (sum_of v e)
@@ -151,20 +151,20 @@ first_of_s v e s l r = generic (sum_of v e)
         ring (p.x ∷ p.y ∷ p.z ∷ s.x ∷ s.y ∷ s.z ∷ l.x ∷ l.y ∷ l.z ∷ r.x ∷ r.y ∷ r.z ∷ [])
         (search reads depth 40) refl
 
-second_of : (v e s r : Vec3) → det_of s (edge_point v e r) v ≡
+pub second_of : (v e s r : Vec3) → det_of s (edge_point v e r) v ≡
     dot_of v (cross_of s r) -ℤ det_of v e s
 second_of v e s r =
     ring (v.x ∷ v.y ∷ v.z ∷ e.x ∷ e.y ∷ e.z ∷ s.x ∷ s.y ∷ s.z ∷ r.x ∷ r.y ∷ r.z ∷ [])
     (search reads depth 40) refl
 
-second_of_v : (v e r : Vec3) → det_of v (edge_point v e r) v ≡ pos 0
+pub second_of_v : (v e r : Vec3) → det_of v (edge_point v e r) v ≡ pos 0
 second_of_v v e r =
     ring (v.x ∷ v.y ∷ v.z ∷ e.x ∷ e.y ∷ e.z ∷ r.x ∷ r.y ∷ r.z ∷ []) (search reads depth 40) refl
 
-second_of_e : (v e r : Vec3) → det_of e (edge_point v e r) v ≡ det_of v e r
+pub second_of_e : (v e r : Vec3) → det_of e (edge_point v e r) v ≡ det_of v e r
 second_of_e v e r =
     ring (v.x ∷ v.y ∷ v.z ∷ e.x ∷ e.y ∷ e.z ∷ r.x ∷ r.y ∷ r.z ∷ []) (search reads depth 40) refl
 
-turned_det : (s v p : Vec3) → det_of s v p ≡ pos 0 -ℤ det_of s p v
+pub turned_det : (s v p : Vec3) → det_of s v p ≡ pos 0 -ℤ det_of s p v
 turned_det s v p =
     ring (v.x ∷ v.y ∷ v.z ∷ p.x ∷ p.y ∷ p.z ∷ s.x ∷ s.y ∷ s.z ∷ []) (search reads depth 40) refl
