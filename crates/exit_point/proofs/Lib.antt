@@ -7,3 +7,4 @@ pub mod Divided
 pub mod Faces
 pub mod Planes
 pub mod Shares
+pub mod Edges
