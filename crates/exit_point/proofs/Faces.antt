@@ -59,10 +59,10 @@ face_quotient : (n top bottom along at h all : ℤ) → pos 0 ≤ℤ bottom →
 face_quotient n top bottom along at h all low cut reach =
     let times = mul_le_right all (n *ℤ top +ℤ at +ℤ h) bottom reach low in
     let left : top *ℤ (n *ℤ bottom +ℤ along) ≡ n *ℤ top *ℤ bottom +ℤ top *ℤ along =
-        ring (n ∷ top ∷ bottom ∷ along ∷ []) (search reads depth 40) refl in
+    ring (n ∷ top ∷ bottom ∷ along ∷ []) (search reads depth 40) refl in
     let right : (n *ℤ top +ℤ at +ℤ h) *ℤ bottom ≡
-        n *ℤ top *ℤ bottom +ℤ bottom *ℤ at +ℤ bottom *ℤ h =
-        ring (n ∷ top ∷ bottom ∷ at ∷ h ∷ []) (search reads depth 40) refl in
+    n *ℤ top *ℤ bottom +ℤ bottom *ℤ at +ℤ bottom *ℤ h =
+    ring (n ∷ top ∷ bottom ∷ at ∷ h ∷ []) (search reads depth 40) refl in
     omega (arith, linear, times, cut, left, right)
 
 -- a point's product with n times the direction and another one: p and s are the point's products
@@ -197,11 +197,11 @@ faces_reach n w u (list ∷ lists) (v ∷ points) (face ∷ faces) are from near
     let reach_w = support_cons w list lists in
     let reach_face = support_cons u face faces in
     let times : n *ℤ (greatest_of w list +ℤ support_of lists w) ≡
-        n *ℤ greatest_of w list +ℤ n *ℤ support_of lists w =
-        ring (n ∷ greatest_of w list ∷ support_of lists w ∷ []) (search reads depth 40) refl in
+    n *ℤ greatest_of w list +ℤ n *ℤ support_of lists w =
+    ring (n ∷ greatest_of w list ∷ support_of lists w ∷ []) (search reads depth 40) refl in
     let times_w : n *ℤ support_of (list ∷ lists) w ≡
-        n *ℤ greatest_of w list +ℤ n *ℤ support_of lists w =
-        ap (λ (z : ℤ). n *ℤ z) reach_w ∙ times in
+    n *ℤ greatest_of w list +ℤ n *ℤ support_of lists w =
+    ap (λ (z : ℤ). n *ℤ z) reach_w ∙ times in
     omega (arith, linear)
 
 -- in no direction does the demand's ray, where it meets the cut, lie past the face

@@ -8,3 +8,4 @@ pub mod Faces
 pub mod Planes
 pub mod Shares
 pub mod Edges
+pub mod Beside

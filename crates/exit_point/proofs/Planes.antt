@@ -16,33 +16,33 @@ pub along_normal : (w u x e : Vec3) → dot_of w x ≡ pos 0 → dot_of u x ≡ 
 along_normal w u x e flat level =
     let g = cross_of w u in
     let lagrange : (g x e : Vec3) → dot_of g g *ℤ dot_of e x -ℤ dot_of g x *ℤ dot_of e g ≡
-        (g.y *ℤ e.z -ℤ g.z *ℤ e.y) *ℤ (g.y *ℤ x.z -ℤ g.z *ℤ x.y) +ℤ
-        (g.z *ℤ e.x -ℤ g.x *ℤ e.z) *ℤ (g.z *ℤ x.x -ℤ g.x *ℤ x.z) +ℤ
-        (g.x *ℤ e.y -ℤ g.y *ℤ e.x) *ℤ (g.x *ℤ x.y -ℤ g.y *ℤ x.x) =
-        λ (g : Vec3) (x : Vec3) (e : Vec3).
-            ring (g.x ∷ g.y ∷ g.z ∷ x.x ∷ x.y ∷ x.z ∷ e.x ∷ e.y ∷ e.z ∷ [])
-            (search reads depth 40) refl in
+    (g.y *ℤ e.z -ℤ g.z *ℤ e.y) *ℤ (g.y *ℤ x.z -ℤ g.z *ℤ x.y) +ℤ
+    (g.z *ℤ e.x -ℤ g.x *ℤ e.z) *ℤ (g.z *ℤ x.x -ℤ g.x *ℤ x.z) +ℤ
+    (g.x *ℤ e.y -ℤ g.y *ℤ e.x) *ℤ (g.x *ℤ x.y -ℤ g.y *ℤ x.x) =
+    λ (g : Vec3) (x : Vec3) (e : Vec3).
+    ring (g.x ∷ g.y ∷ g.z ∷ x.x ∷ x.y ∷ x.z ∷ e.x ∷ e.y ∷ e.z ∷ [])
+    (search reads depth 40) refl in
     let in_x : g.y *ℤ x.z -ℤ g.z *ℤ x.y ≡ u.x *ℤ dot_of w x -ℤ w.x *ℤ dot_of u x =
-        ring (w.x ∷ w.y ∷ w.z ∷ u.x ∷ u.y ∷ u.z ∷ x.x ∷ x.y ∷ x.z ∷ [])
-        (search reads depth 40) refl in
+    ring (w.x ∷ w.y ∷ w.z ∷ u.x ∷ u.y ∷ u.z ∷ x.x ∷ x.y ∷ x.z ∷ [])
+    (search reads depth 40) refl in
     let in_y : g.z *ℤ x.x -ℤ g.x *ℤ x.z ≡ u.y *ℤ dot_of w x -ℤ w.y *ℤ dot_of u x =
-        ring (w.x ∷ w.y ∷ w.z ∷ u.x ∷ u.y ∷ u.z ∷ x.x ∷ x.y ∷ x.z ∷ [])
-        (search reads depth 40) refl in
+    ring (w.x ∷ w.y ∷ w.z ∷ u.x ∷ u.y ∷ u.z ∷ x.x ∷ x.y ∷ x.z ∷ [])
+    (search reads depth 40) refl in
     let in_z : g.x *ℤ x.y -ℤ g.y *ℤ x.x ≡ u.z *ℤ dot_of w x -ℤ w.z *ℤ dot_of u x =
-        ring (w.x ∷ w.y ∷ w.z ∷ u.x ∷ u.y ∷ u.z ∷ x.x ∷ x.y ∷ x.z ∷ [])
-        (search reads depth 40) refl in
+    ring (w.x ∷ w.y ∷ w.z ∷ u.x ∷ u.y ∷ u.z ∷ x.x ∷ x.y ∷ x.z ∷ [])
+    (search reads depth 40) refl in
     let none : (a b : ℤ) → a *ℤ dot_of w x -ℤ b *ℤ dot_of u x ≡ pos 0 =
-        λ (a : ℤ) (b : ℤ). ap₂ (λ (p : ℤ) (q : ℤ). a *ℤ p -ℤ b *ℤ q) flat level
-            ∙ ring (a ∷ b ∷ []) (search reads depth 40) refl in
+    λ (a : ℤ) (b : ℤ). ap₂ (λ (p : ℤ) (q : ℤ). a *ℤ p -ℤ b *ℤ q) flat level
+    ∙ ring (a ∷ b ∷ []) (search reads depth 40) refl in
     let gone : (a b c p q r : ℤ) → p ≡ pos 0 → q ≡ pos 0 → r ≡ pos 0 →
-        a *ℤ p +ℤ b *ℤ q +ℤ c *ℤ r ≡ pos 0 =
-        λ (a : ℤ) (b : ℤ) (c : ℤ) (p : ℤ) (q : ℤ) (r : ℤ) i j k.
-            ap₂ ◌+ℤ◌ (ap₂ (λ (p : ℤ) (q : ℤ). a *ℤ p +ℤ b *ℤ q) i j) (ap (λ (r : ℤ). c *ℤ r) k)
-            ∙ ring (a ∷ b ∷ c ∷ []) (search reads depth 40) refl in
+    a *ℤ p +ℤ b *ℤ q +ℤ c *ℤ r ≡ pos 0 =
+    λ (a : ℤ) (b : ℤ) (c : ℤ) (p : ℤ) (q : ℤ) (r : ℤ) i j k.
+    ap₂ ◌+ℤ◌ (ap₂ (λ (p : ℤ) (q : ℤ). a *ℤ p +ℤ b *ℤ q) i j) (ap (λ (r : ℤ). c *ℤ r) k)
+    ∙ ring (a ∷ b ∷ c ∷ []) (search reads depth 40) refl in
     let rest = lagrange g x e
-        ∙ gone (g.y *ℤ e.z -ℤ g.z *ℤ e.y) (g.z *ℤ e.x -ℤ g.x *ℤ e.z) (g.x *ℤ e.y -ℤ g.y *ℤ e.x)
-        (g.y *ℤ x.z -ℤ g.z *ℤ x.y) (g.z *ℤ x.x -ℤ g.x *ℤ x.z) (g.x *ℤ x.y -ℤ g.y *ℤ x.x)
-        (in_x ∙ none u.x w.x) (in_y ∙ none u.y w.y) (in_z ∙ none u.z w.z) in
+    ∙ gone (g.y *ℤ e.z -ℤ g.z *ℤ e.y) (g.z *ℤ e.x -ℤ g.x *ℤ e.z) (g.x *ℤ e.y -ℤ g.y *ℤ e.x)
+    (g.y *ℤ x.z -ℤ g.z *ℤ x.y) (g.z *ℤ x.x -ℤ g.x *ℤ x.z) (g.x *ℤ x.y -ℤ g.y *ℤ x.x)
+    (in_x ∙ none u.x w.x) (in_y ∙ none u.y w.y) (in_z ∙ none u.z w.z) in
     omega (arith, linear, rest)
 
 -- the determinant of v, e and the normal of w and u, where e is perpendicular to w
@@ -50,11 +50,11 @@ pub normal_share : (w u v e : Vec3) → dot_of w e ≡ pos 0 →
     det_of v e (cross_of w u) ≡ dot_of w v *ℤ dot_of u e
 normal_share w u v e flat =
     let binet : det_of v e (cross_of w u) ≡
-        dot_of w v *ℤ dot_of u e -ℤ dot_of u v *ℤ dot_of w e =
-        ring (w.x ∷ w.y ∷ w.z ∷ u.x ∷ u.y ∷ u.z ∷ v.x ∷ v.y ∷ v.z ∷ e.x ∷ e.y ∷ e.z ∷ [])
-        (search reads depth 40) refl in
+    dot_of w v *ℤ dot_of u e -ℤ dot_of u v *ℤ dot_of w e =
+    ring (w.x ∷ w.y ∷ w.z ∷ u.x ∷ u.y ∷ u.z ∷ v.x ∷ v.y ∷ v.z ∷ e.x ∷ e.y ∷ e.z ∷ [])
+    (search reads depth 40) refl in
     let none : dot_of u v *ℤ dot_of w e ≡ pos 0 = ap (λ (z : ℤ). dot_of u v *ℤ z) flat
-        ∙ ring (dot_of u v ∷ []) (search reads depth 40) refl in
+    ∙ ring (dot_of u v ∷ []) (search reads depth 40) refl in
     omega (arith, linear, binet, none)
 
 -- ---- two vectors along one normal

@@ -8,9 +8,9 @@ use Rattle.wrench_geometry.specs.declared.vector.Vec3.{Vec3}
 use Rattle.wrench_geometry.specs.Vectors.{cross_of, det_of, dot_of, scaled_by, sum_of}
 use Rattle.exit_point.proofs.Planes.{along_normal, both_along, det_parts, det_scaled, edge_point, first_of_e, first_of_s, first_of_v, normal_share, parts_of, second_of, second_of_e, second_of_v, turned_det}
 
--- what is known of a demand d, of a corner v on the cut along w, and of the edge along the normal of
--- w and u: e is from v to the edge, l and r are from there to its ends, and s is how far, times m,
--- the ray meets it from there
+-- what is known of a demand d, of a corner v on the cut along w, and of the edge along the normal
+-- of w and u: e is from v to the edge, l and r are from there to its ends, and s is how far, times
+-- m, the ray meets it from there
 pub record IsEdge (d w u v e s l r : Vec3) (top top_beside k m : ℤ) : Type 0 where
   pub meets : scaled_by (top *ℤ top_beside) d ≡ parts_of k v m e s
   pub on_cut : dot_of w v ≡ top
@@ -35,10 +35,15 @@ long : (c d : Vec3) → pos 1 ≤ℤ dot_of d c → pos 0 <ℤ dot_of c c
 long c d ahead =
     let n = cross_of c d in
     let square : dot_of d d *ℤ dot_of c c ≡ dot_of d c *ℤ dot_of d c +ℤ dot_of n n =
-        ring (c.x ∷ c.y ∷ c.z ∷ d.x ∷ d.y ∷ d.z ∷ []) (search reads depth 40) refl in
+    ring (c.x ∷ c.y ∷ c.z ∷ d.x ∷ d.y ∷ d.z ∷ []) (search reads depth 40) refl in
     pos_of_mul_pos (dot_of d d) (dot_of c c) (squares d)
-    (omega (arith, linear, square, squares n,
-    mul_pos (dot_of d c) (dot_of d c) (omega (arith, linear)) (omega (arith, linear))))
+    (omega (
+      arith,
+      linear,
+      square,
+      squares n,
+      mul_pos (dot_of d c) (dot_of d c) (omega (arith, linear)) (omega (arith, linear)),
+    ))
   where
     squares : (v : Vec3) → pos 0 ≤ℤ dot_of v v
     squares v = omega (arith, linear, square_nonneg v.x, square_nonneg v.y, square_nonneg v.z)
@@ -221,9 +226,11 @@ module _ (d w u v e s l r : Vec3) (top top_beside k m : ℤ)
       (omega (arith, linear, is.from_least, is.to_greatest))
 
   touches : (x : Vec3) → dot_of w x ≡ pos 0 → dot_of w (edge_point v e x) ≡ top
-  touches x flat = parts w v e x ∙ sums (dot_of w v) (dot_of w e) (dot_of w x) is.on_cut is.e_flat flat
+  touches x flat = parts w v e x
+      ∙ sums (dot_of w v) (dot_of w e) (dot_of w x) is.on_cut is.e_flat flat
     where
-      parts : (w v e x : Vec3) → dot_of w (edge_point v e x) ≡ dot_of w v +ℤ dot_of w e +ℤ dot_of w x
+      parts : (w v e x : Vec3) →
+          dot_of w (edge_point v e x) ≡ dot_of w v +ℤ dot_of w e +ℤ dot_of w x
       parts w v e x =
           ring (w.x ∷ w.y ∷ w.z ∷ v.x ∷ v.y ∷ v.z ∷ e.x ∷ e.y ∷ e.z ∷ x.x ∷ x.y ∷ x.z ∷ [])
           (search reads depth 40) refl
