@@ -39,12 +39,12 @@ pub least_beside : (lists : List (List Vec3)) (directions : List Vec3) (w : Vec3
     IsLeastAlong faces d u top bottom
 least_beside lists directions w points faces d u top bottom are spans settled bottom_is top_is
     ahead at_most = record {
-  bottom_is = bottom_is;
-  top_is = top_is;
-  ahead = ahead;
-  least = λ x x_ahead. from_candidate x x_ahead
-      (some_candidate (support_of faces) directions is d x x_ahead);
-}
+      bottom_is = bottom_is;
+      top_is = top_is;
+      ahead = ahead;
+      least = λ x x_ahead. from_candidate x x_ahead
+          (some_candidate (support_of faces) directions is d x x_ahead);
+    }
   where
     is : IsDirectionList (support_of faces) directions
     is = directions_of_faces directions w lists points faces are spans settled

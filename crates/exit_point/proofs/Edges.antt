@@ -1,13 +1,12 @@
 -- A least cut of the face of a least cut bounds an edge by which the demand has its shares.
-use Rattle.std.proofs.Common.{◌≡◌, ℤ, pos, neg_ℤ, ◌+ℤ◌, ◌-ℤ◌, ◌*ℤ◌, ◌≤ℤ◌, ◌<ℤ◌, List, [], ◌∷◌, sym, ap, ap₂, ◌∙◌, refl, subst, arith}
+use Rattle.std.proofs.Common.{◌≡◌, ℤ, pos, ◌+ℤ◌, ◌-ℤ◌, ◌*ℤ◌, ◌≤ℤ◌, ◌<ℤ◌, List, [], ◌∷◌, sym, ap, ap₂, ◌∙◌, refl, arith}
 use Rattle.int_ring.proofs.Laws.{linear}
 use Rattle.int_ring.proofs.Order.{pos_of_mul_pos}
 use Rattle.int_ring.proofs.Ring.{ring, reads}
 use Rattle.wrench_geometry.specs.declared.vector.Vec3.{Vec3}
-use Rattle.wrench_geometry.specs.Vectors.{cross_of, difference_of, dot_of, opposite_of, scaled_by, sum_of, support_of}
+use Rattle.wrench_geometry.specs.Vectors.{cross_of, difference_of, dot_of, opposite_of, scaled_by, support_of}
 use Rattle.wrench_geometry.proofs.Bounds.{same_vector}
 use Rattle.exit_point.proofs.Faces.{AreFaces, IsLeastAlong, chosen_greatest, dot_sum, dot_zero, face_bound, sum_of_all}
-use Rattle.exit_point.proofs.Planes.{parts_of}
 use Rattle.exit_point.proofs.Shares.{IsEdge}
 
 -- what is left of the demand, top times, past the point, bottom times

@@ -1,8 +1,8 @@
 -- How a demand is shared among a corner on a least cut and two on the edge where the ray's rest
 -- leaves the cut's face.
-use Rattle.std.proofs.Common.{◌≡◌, ℤ, pos, ◌+ℤ◌, ◌-ℤ◌, ◌*ℤ◌, ◌≤ℤ◌, ◌<ℤ◌, List, [], ◌∷◌, sym, ap, ap₂, ◌∙◌, refl, subst, arith}
-use Rattle.int_ring.proofs.Laws.{linear, mul_nonneg, mul_pos}
-use Rattle.int_ring.proofs.Order.{cancel_left, nonneg_of_mul_nonneg, pos_of_mul_pos}
+use Rattle.std.proofs.Common.{◌≡◌, ℤ, pos, ◌+ℤ◌, ◌-ℤ◌, ◌*ℤ◌, ◌<ℤ◌, [], ◌∷◌, sym, ap, ap₂, ◌∙◌, refl, arith}
+use Rattle.int_ring.proofs.Laws.{linear}
+use Rattle.int_ring.proofs.Order.{cancel_left}
 use Rattle.int_ring.proofs.Ring.{ring, reads}
 use Rattle.wrench_geometry.specs.declared.vector.Vec3.{Vec3}
 use Rattle.wrench_geometry.specs.Vectors.{cross_of, det_of, dot_of, scaled_by, sum_of}
