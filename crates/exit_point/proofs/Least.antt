@@ -1,13 +1,11 @@
 -- Why weights at the quotient of a cut show that the cut is least, and why shares by Cramer's rule
 -- are such weights.
-use Rattle.std.proofs.Common.{◌≡◌, ℕ, zero, suc, ◌<◌, ℤ, pos, ◌+ℤ◌, ◌*ℤ◌, ◌≤ℤ◌, ◌<ℤ◌, List, [], ◌∷◌, All, fold, ap, ap₂, sym, ◌∙◌, refl, arith, subst}
-use Rattle.std.specs.List.{AllZip}
+use Rattle.std.proofs.Common.{◌≡◌, suc, ℤ, pos, ◌+ℤ◌, ◌*ℤ◌, ◌≤ℤ◌, List, [], ◌∷◌, All, fold, ap, sym, ◌∙◌, refl, arith, subst}
 use Rattle.std.proofs.lemmas.Int.{ints}
 use Rattle.int_ring.proofs.Laws.{linear}
 use Rattle.int_ring.proofs.Order.{cancel_le_left, mul_le_left, mul_le_right}
 use Rattle.int_ring.proofs.Ring.{ring, reads}
 use Rattle.arrayvec.specs.ArrayVec.{ArrayVec}
-use Rattle.wrench_geometry.specs.declared.cut.Cut.{Cut}
 use Rattle.wrench_geometry.specs.declared.vector.Vec3.{Vec3}
 use Rattle.wrench_geometry.specs.Cuts.{IsCut}
 use Rattle.wrench_geometry.specs.Vectors.{det_of, dot_of, greatest_of, scaled_by, sum_of, support_of, zero_vector}

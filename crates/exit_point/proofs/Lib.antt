@@ -4,3 +4,8 @@ pub mod Rows
 pub mod ListRows
 pub mod Least
 pub mod Divided
+pub mod Faces
+pub mod Planes
+pub mod Shares
+pub mod Edges
+pub mod Beside

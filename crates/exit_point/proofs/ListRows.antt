@@ -1,14 +1,11 @@
 -- Weights of the lists so far, and of one list more.
 use Rattle.std.proofs.Common.{◌≡◌, ℕ, zero, suc, ◌+◌, ◌<◌, ◌≤◌, ℤ, pos, ◌+ℤ◌, ◌*ℤ◌, List, [], ◌∷◌, ◌++◌, length, take, get_or, min, ap, ap₂, sym, ◌∙◌, refl, arith, subst}
-use Rattle.std.specs.List.{AllZip}
-use Rattle.std.proofs.lemmas.Int.{ints}
 use Rattle.std.proofs.lemmas.List.{length-take, take_more}
-use Rattle.std.proofs.Math.Seq.{take-length}
 use Rattle.int_ring.proofs.Ring.{ring, reads}
 use Rattle.arrayvec.specs.ArrayVec.{ArrayVec}
 use Rattle.wrench_geometry.specs.declared.vector.Vec3.{Vec3}
 use Rattle.wrench_geometry.specs.declared.vertices.Vertex.{Vertex}
-use Rattle.wrench_geometry.specs.Vectors.{scaled_by, sum_of, zero_vector}
+use Rattle.wrench_geometry.specs.Vectors.{sum_of, zero_vector}
 use Rattle.wrench_geometry.specs.Vertices.{ArePlaces}
 use Rattle.wrench_geometry.specs.Wrenches.{image_at, sum_at}
 use Rattle.wrench_geometry.proofs.Bounds.{same_vector}

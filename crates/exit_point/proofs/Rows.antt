@@ -1,20 +1,16 @@
 -- Weights of a list, with a share more at a place, and weights of several lists.
-use Rattle.std.proofs.Common.{◌≡◌, ℕ, zero, suc, ◌+◌, ◌<◌, ◌≤◌, ℤ, pos, ◌+ℤ◌, ◌*ℤ◌, ◌≤ℤ◌, SFits, w64, List, [], ◌∷◌, ◌++◌, length, take, get_or, set, replicate, ap, ap₂, sym, ◌∙◌, refl, arith}
+use Rattle.std.proofs.Common.{◌≡◌, ℕ, zero, suc, ◌+◌, ◌<◌, ◌≤◌, ℤ, pos, ◌+ℤ◌, ◌*ℤ◌, ◌≤ℤ◌, SFits, w64, List, [], ◌∷◌, length, take, get_or, replicate, ap, ◌∙◌, refl, arith}
 use Rattle.std.specs.Prelude.{All, fold}
-use Rattle.std.specs.List.{AllZip}
 use Rattle.std.proofs.lemmas.Int.{ints}
 use Rattle.std.proofs.lemmas.List.{length-set, take-replicate}
-use Rattle.std.proofs.lemmas.List.Elements.{All-set, All-get_or}
-use Rattle.int_ring.proofs.Laws.{linear}
+use Rattle.std.proofs.lemmas.List.Elements.{All-set}
 use Rattle.int_ring.proofs.Ring.{ring, reads}
-use Rattle.arrayvec.specs.ArrayVec.{ArrayVec}
 use Rattle.wrench_geometry.specs.declared.vector.Vec3.{Vec3}
-use Rattle.wrench_geometry.specs.declared.vertices.TheConstants.{MOST_DETERMINANT}
 use Rattle.wrench_geometry.specs.Vectors.{scaled_by, sum_of, zero_vector}
 use Rattle.wrench_geometry.specs.Wrenches.{image_at}
 use Rattle.wrench_geometry.proofs.Bounds.{same_vector}
 use Rattle.exit_point.specs.declared.weights.Shares.{Shares}
-use Rattle.exit_point.specs.Exits.{AreWeights, EachHasWeights, weighted, weighted_sum}
+use Rattle.exit_point.specs.Exits.{AreWeights, weighted}
 use Rattle.exit_point.specs.Corners.{IsShare, shared, with_share}
 
 -- ---- vectors

@@ -1,6 +1,6 @@
 use Rattle.std.proofs.Common.{◌≡◌, arith, rules, to_z, of_z, w64}
 use Rattle.std.proofs.lemmas.Int.{ints, to_z-of_z}
-use Rattle.exit_point.proofs.Rows.{Weigh, first_weigh, next_fits, next_weigh, three_weigh}
+use Rattle.exit_point.proofs.Rows.{first_weigh, next_fits, next_weigh, three_weigh}
 use Rattle.exit_point.proofs.weights.list_weights.Goals as goal
 
 pub give-requires-2-clause-fits : goal.give-requires-2-clause-fits
