@@ -1,6 +1,6 @@
 -- The plant that a document without faults describes.
 use Rattle.std.specs.Prelude.{ℕ, ◌+◌, ◌-◌, ◌^◌, pos, List, [], ◌++◌, length, map, replicate, Bool, false, nat_lt, if◌then◌else◌, Option, option_map, option_and_then, unwrap_or, slice_get, sum}
-use Rattle.std.specs.List.{position_or_len}
+use Rattle.std.specs.List.{flat_map, position_or_len}
 use Rattle.std.specs.Str.{bytes_eq}
 use Rattle.plant_model.specs.Rings.{cut}
 use Rattle.plant_model.specs.declared.controller.Gains.{Gains}
@@ -62,6 +62,10 @@ sectors_at key d = map sector_in (list_at key d)
 -- the names of the elements of a part
 abbrev pub names_of : Part → Members → List (List ℕ)
 names_of part doc = map (text_at key.Name) (elements_at part doc)
+
+-- the names of the elements of some parts
+abbrev pub names_of_parts : List Part → Members → List (List ℕ)
+names_of_parts parts doc = flat_map (λ part. names_of part doc) parts
 
 -- the names of all sections, ties, generators and thrusters
 abbrev pub all_names : Members → List (List ℕ)

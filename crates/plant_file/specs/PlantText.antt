@@ -22,9 +22,13 @@ use Rattle.plant_file.specs.declared.fault.PlantFault.TheVariants.{NotToml, Name
 abbrev pub placed : Part → Members → List (ℕ × Data)
 placed part doc = enumerate_from 0 (elements_at part doc)
 
+-- the names of elements of a part, of which the first has this place, each with its path
+abbrev pub named_from : Part → ℕ → List Data → List (Path × List ℕ)
+named_from part first ds = map (λ e. (path_to part e.0 Name, text_at Name e.1)) (enumerate_from first ds)
+
 -- the names of a part's elements, each with its path
 abbrev pub named : Part → Members → List (Path × List ℕ)
-named part doc = map (λ e. (path_to part e.0 Name, text_at Name e.1)) (placed part doc)
+named part doc = named_from part 0 (elements_at part doc)
 
 abbrev pub unless : Bool → PlantFault → List PlantFault
 unless good fault = if good then [] else fault ∷ []
@@ -38,10 +42,14 @@ twice_after earlier (n ∷ ns) = (if list_any (bytes_eq n.1) earlier then NameTw
 abbrev pub repeated : Part → Key → ℕ × Data → List PlantFault
 repeated part key e = unless (are_distinct bytes_eq (texts_at key e.1)) (NameTwice (path_to part e.0 key))
 
+-- names of sections, ties, generators and thrusters that stand twice
+abbrev pub faults_of_part_names : Members → List PlantFault
+faults_of_part_names doc = twice_after [] (named Section doc ++ named Tie doc ++ named Generator doc ++ named Thruster doc)
+
 -- names that stand twice, ties with two equal ends, and groups that have a member twice
 abbrev pub faults_of_names : Members → List PlantFault
 faults_of_names doc =
-    twice_after [] (named Section doc ++ named Tie doc ++ named Generator doc ++ named Thruster doc)
+    faults_of_part_names doc
     ++ twice_after [] (named Group doc)
     ++ flat_map (repeated Tie Ends) (placed Tie doc)
     ++ flat_map (repeated Group MembersKey) (placed Group doc)

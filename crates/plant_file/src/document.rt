@@ -3,7 +3,9 @@ ghost use Rattle.std.specs.Prelude.{◌≡◌, map, option_map};
 ghost use Rattle.toml.specs.Data.{get_member};
 ghost use Rattle.toml.specs.View.{view, table_view};
 ghost use Rattle.plant_file.specs.Documents.{list_in, number_in, number_at, text_in, truth_in};
+ghost use Rattle.plant_file.specs.Described.{held, list_at, text_at};
 
+use crate::fault::Key;
 use toml::{Table, Value};
 
 /// What a key of a table holds.
@@ -51,5 +53,35 @@ pub fn number_at(value: &Value, place: usize) -> i64
     match list(value).get(place) {
         Some(element) => number(element),
         None => 0,
+    }
+}
+
+/// What a key of a value holds. None where the value is no table that has the key.
+pub fn held(value: &Value, key: Key) -> Option<&Value>
+    ensures { option_map (λ held. view held.now) result ≡ held key (view value.now) }
+{
+    match value.as_table() {
+        Some(table) => value_at(table, key.text()),
+        None => None,
+    }
+}
+
+/// The text that a key of a value holds. An empty one where there is none.
+pub fn text_at(value: &Value, key: Key) -> &str
+    ensures { result.now ≡ text_at key (view value.now) }
+{
+    match held(value, key) {
+        Some(held) => text(held),
+        None => "",
+    }
+}
+
+/// The elements of the list that a key of a value holds. None where there is none.
+pub fn list_at(value: &Value, key: Key) -> &[Value]
+    ensures { map view result.now ≡ list_at key (view value.now) }
+{
+    match held(value, key) {
+        Some(held) => list(held),
+        None => &[],
     }
 }

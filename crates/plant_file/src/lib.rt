@@ -6,6 +6,7 @@ mod fault;
 mod judging;
 mod key;
 mod kind;
+mod names;
 mod reading;
 mod unknown;
 
