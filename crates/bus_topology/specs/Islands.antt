@@ -1,5 +1,7 @@
 -- Which sections of a switchboard are connected, as a plant stands.
-use Rattle.std.specs.Prelude.{◌≡◌, ℕ, ◌+◌, ◌-◌, ◌<◌, ◌≤◌, ◌⊎◌, ◌==◌, List, length, slice_get, slice_index, slice_index_or, Some, Bool, true, All, IsSomeAnd, if◌then◌else◌}
+use Rattle.std.specs.Prelude.{◌≡◌, ℕ, ◌+◌, ◌-◌, ◌<◌, ◌≤◌, ◌⊎◌, ◌==◌, List, length, slice_get}
+use Rattle.std.specs.Prelude.{slice_index, slice_index_or, Some, Bool, true, All, IsSomeAnd}
+use Rattle.std.specs.Prelude.{if◌then◌else◌}
 use Rattle.plant_model.specs.declared.limits.TheConstants.{MOST_SECTIONS}
 use Rattle.plant_model.specs.declared.parts.Tie.{Tie}
 use Rattle.plant_model.specs.declared.plant.Parts.{Parts}

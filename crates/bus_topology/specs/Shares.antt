@@ -1,5 +1,6 @@
 -- What share of the full power there is on a section's island.
-use Rattle.std.specs.Prelude.{◌≡◌, ℕ, ◌*◌, ◌/◌, ◌==◌, ◌↔◌, ◌&&◌, nat_le, Bool, IsTrue, List, sum_by, count_by, if◌then◌else◌}
+use Rattle.std.specs.Prelude.{◌≡◌, ℕ, ◌*◌, ◌/◌, ◌==◌, ◌↔◌, ◌&&◌, nat_le, Bool, IsTrue, List, sum_by}
+use Rattle.std.specs.Prelude.{count_by, if◌then◌else◌}
 use Rattle.std.specs.List.{zip}
 use Rattle.plant_model.specs.declared.plant.Parts.{Parts}
 use Rattle.plant_model.specs.declared.status.Standing.{Standing}

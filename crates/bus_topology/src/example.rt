@@ -117,7 +117,8 @@ fn thrusters() -> ArrayVec<Thruster, MOST_THRUSTERS>
 }
 
 fn groups() -> ArrayVec<Group, MOST_GROUPS>
-    ensures { result.items ≡ record { name = codes "GB"; members = record { items = Section 1 ∷ [] } } ∷ [] }
+    ensures { result.items
+        ≡ record { name = codes "GB"; members = record { items = Section 1 ∷ [] } } ∷ [] }
 {
     let mut members = ArrayVec::new();
     members.push(Member::Section(1));

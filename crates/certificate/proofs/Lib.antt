@@ -7,3 +7,8 @@ pub mod Duality
 pub mod Choosing
 pub mod Places
 pub mod Beside
+pub mod Together
+pub mod Astray
+pub mod Held
+pub mod Loads
+pub mod Shown

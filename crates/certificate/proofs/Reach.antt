@@ -15,7 +15,12 @@ use Rattle.certificate.proofs.Hulls.{IsMix, mix_of_triangle, mix_of_way, mix_wit
 
 -- what `search machine` takes of a number within bounds, bound by a `let`
 abbrev pub bounded : {most z : ℤ} → IsWithin most z → Strips z
-bounded {most} {z} w = strip_known z (record { bound = neg_ℤ most; holds = w.low }) (record { bound = most; holds = w.high })
+bounded {most} {z} w =
+    strip_known z (record { bound = neg_ℤ most; holds = w.low }) (record {
+      bound = most;
+      holds =
+          w.high;
+    })
 
 -- a coordinate of a point of the type
 pub coordinate : (z : ℤ) → SFits w32 z → IsWithin FARTHEST z
@@ -24,19 +29,25 @@ coordinate z h =
     let high = signed_to w32 z h in
     record { low = omega (arith, linear); high = omega (arith, linear) }
 
-near_of_mix : (p r : Point) (a : Thrust) (q : ℤ) → SFits w32 p.x → SFits w32 p.y → SFits w32 r.x → SFits w32 r.y → IsMix p r a q → IsNear a q
+near_of_mix : (p r : Point) (a : Thrust) (q : ℤ) → SFits w32 p.x → SFits w32 p.y → SFits w32 r.x →
+    SFits w32 r.y → IsMix p r a q → IsNear a q
 near_of_mix p r a q px py rx ry m =
     let from_0 : pos 0 ≤ℤ FARTHEST = omega (arith, linear) in
     record {
-      x = mix_within m.k m.u m.v q FARTHEST a.x p.x r.x m.k_above_0 m.u_from_0 m.v_from_0 from_0 m.within (coordinate p.x px) (coordinate r.x rx) m.x;
-      y = mix_within m.k m.u m.v q FARTHEST a.y p.y r.y m.k_above_0 m.u_from_0 m.v_from_0 from_0 m.within (coordinate p.y py) (coordinate r.y ry) m.y;
+      x = mix_within m.k m.u m.v q FARTHEST a.x p.x r.x m.k_above_0 m.u_from_0 m.v_from_0 from_0
+          m.within (coordinate p.x px) (coordinate r.x rx) m.x;
+      y = mix_within m.k m.u m.v q FARTHEST a.y p.y r.y m.k_above_0 m.u_from_0 m.v_from_0 from_0
+          m.within (coordinate p.y py) (coordinate r.y ry) m.y;
     }
 
-pub near_of_way : (p : Point) (a : Thrust) (q : ℤ) → SFits w32 p.x → SFits w32 p.y → pos 1 ≤ℤ q → IsOnWay p a q → IsNear a q
+pub near_of_way : (p : Point) (a : Thrust) (q : ℤ) → SFits w32 p.x → SFits w32 p.y → pos 1 ≤ℤ q →
+    IsOnWay p a q → IsNear a q
 near_of_way p a q px py from_1 way = near_of_mix p p a q px py px py (mix_of_way p a q from_1 way)
 
-pub near_of_triangle : (p r : Point) (a : Thrust) (q : ℤ) → SFits w32 p.x → SFits w32 p.y → SFits w32 r.x → SFits w32 r.y → IsInTriangle p r a q → IsNear a q
-near_of_triangle p r a q px py rx ry within = near_of_mix p r a q px py rx ry (mix_of_triangle p r a q within)
+pub near_of_triangle : (p r : Point) (a : Thrust) (q : ℤ) → SFits w32 p.x → SFits w32 p.y →
+    SFits w32 r.x → SFits w32 r.y → IsInTriangle p r a q → IsNear a q
+near_of_triangle p r a q px py rx ry within =
+    near_of_mix p r a q px py rx ry (mix_of_triangle p r a q within)
 
 -- what a test between two numbers that are a and b says
 pub passed : {a b x y : ℤ} → x ≡ a → y ≡ b → IsTrue (le_z x y) → a ≤ℤ b

@@ -10,7 +10,8 @@ use Rattle.certificate.specs.declared.hull.TheConstants.{FARTHEST, FARTHEST_THRU
 abbrev pub place_of : Thrust → Point
 place_of thrust = record { x = thrust.x; y = thrust.y }
 
--- the coordinates are no farther than those of a point of the type may be, times the greatest denominator
+-- the coordinates are no farther than those of a point of the type may be, times the greatest
+-- denominator
 pub record IsReached (thrust : Thrust) : Type 0 where
   pub x : IsWithin FARTHEST_THRUST thrust.x
   pub y : IsWithin FARTHEST_THRUST thrust.y
@@ -26,8 +27,8 @@ pub record IsOnWay (p : Point) (thrust : Thrust) (q : ℤ) : Type 0 where
   pub ahead : pos 0 <ℤ dot p (place_of thrust)
   pub not_past : dot p (place_of thrust) ≤ℤ (dot p p *ℤ q)
 
--- the thrust over q is in the triangle of the origin, p and r, which go round it by the turn from x to y: it is on the
--- right of none of the three edges
+-- the thrust over q is in the triangle of the origin, p and r, which go round it by the turn from x
+-- to y: it is on the right of none of the three edges
 pub record IsInTriangle (p r : Point) (thrust : Thrust) (q : ℤ) : Type 0 where
   pub turns : pos 0 <ℤ cross p r
   pub after : pos 0 ≤ℤ cross p (place_of thrust)

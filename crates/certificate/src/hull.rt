@@ -12,12 +12,13 @@ use plant_model::thrust::{Piece, Point, Thrust};
 /// The farthest coordinate of a point of the type, either way.
 pub(crate) const FARTHEST: i128 = 1 << 31;
 
-/// The farthest coordinate of a thrust that over some denominator is no farther than a point may be.
+/// The farthest coordinate of a thrust that over some denominator is no farther than a point may
+/// be.
 const FARTHEST_THRUST: i128 = FARTHEST * i64::MAX as i128;
 
-/// Whether the thrust over `q`, which is at least 1, lies in the piece: in the hull of its points and the origin. That is
-/// the union of the triangles of the origin and two of the points, and of the ways from the origin to a point, whatever
-/// the points are.
+/// Whether the thrust over `q`, which is at least 1, lies in the piece: in the hull of its points
+/// and the origin. That is the union of the triangles of the origin and two of the points, and of
+/// the ways from the origin to a point, whatever the points are.
 pub fn lies(piece: &Piece, thrust: Thrust, q: i64) -> bool
     requires { pos 1 ≤ℤ q }
     ensures { IsTrue result ↔ LiesIn piece.now.points.items thrust q }
@@ -31,8 +32,8 @@ fn is_zero(thrust: Thrust) -> bool
     thrust.x == 0 && thrust.y == 0
 }
 
-/// Whether the thrust over `q` is on the way from the origin to one of the points, or in the triangle of the origin and
-/// two of them.
+/// Whether the thrust over `q` is on the way from the origin to one of the points, or in the
+/// triangle of the origin and two of them.
 fn is_next_to_some(points: &[Point], thrust: Thrust, q: i64) -> bool
     requires { pos 1 ≤ℤ q }
     ensures { IsTrue result ↔ Any (IsNextTo points.now thrust q) points.now }
@@ -81,8 +82,8 @@ fn is_on_way(point: Point, thrust: Thrust, q: i64) -> bool
     ahead > 0 && ahead <= square * q as i128
 }
 
-/// Whether the thrust over `q` is in the triangle of the origin and two points, of which the second is less than half a
-/// turn after the first: whether it is on the right of no edge.
+/// Whether the thrust over `q` is in the triangle of the origin and two points, of which the second
+/// is less than half a turn after the first: whether it is on the right of no edge.
 fn is_in_triangle(first: Point, second: Point, thrust: Thrust, q: i64) -> bool
     requires { pos 1 ≤ℤ q }
     ensures { IsTrue result ↔ IsInTriangle first second thrust q }

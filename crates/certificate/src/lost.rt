@@ -12,9 +12,9 @@ use plant_model::plant::Plant;
 use thrust_region::{Regions, choice, choices};
 use wrench_geometry::{Vec3, sums_of};
 
-/// Whether each choice has a cut that separates it from the demand, else the first place that fails. `ahead` is the
-/// demand less the load of the fixed thrusts, and within [`wrench_geometry::MOST_PLAIN`] along its axes. There is a
-/// region for each thruster.
+/// Whether each choice has a cut that separates it from the demand, else the first place that
+/// fails. `ahead` is the demand less the load of the fixed thrusts, and within
+/// [`wrench_geometry::MOST_PLAIN`] along its axes. There is a region for each thruster.
 pub fn judge_lost(plant: &Plant, regions: &Regions, ahead: Vec3, cuts: &Cuts) -> Result<(), Place>
     requires one_each { length regions.now.list.items ≡ length plant.now.thrusters.items }
     requires within { IsVectorWithin MOST_PLAIN MOST_PLAIN ahead }

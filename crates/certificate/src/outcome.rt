@@ -6,13 +6,13 @@ use plant_model::thrust::Thrusts;
 use wrench_geometry::Vec3;
 
 /// A direction for each choice, in the order of choices.
-#[derive(Debug, Drop)]
+#[derive(Debug, PartialEq, Eq, Drop)]
 pub struct Cuts {
     pub list: ArrayVec<Vec3, MOST_CHOICES>,
 }
 
 /// Whether what is left of a plant meets a demand, with what shows it.
-#[derive(Debug, Drop)]
+#[derive(Debug, PartialEq, Eq, Drop)]
 pub enum Outcome {
     /// It does: in the choice, the thrusts over `q` meet the demand exactly.
     Holds {
@@ -26,7 +26,8 @@ pub enum Outcome {
     },
 }
 
-/// What an outcome is judged by, in the order of judging: first what a `Holds` says, then what a `Lost` says.
+/// What an outcome is judged by, in the order of judging: first what a `Holds` says, then what a
+/// `Lost` says.
 #[derive(Clone, Copy, Debug, PartialEq, Eq)]
 pub enum Place {
     /// The denominator is at least 1.

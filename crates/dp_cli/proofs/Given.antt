@@ -7,7 +7,7 @@ use Rattle.std.proofs.lemmas.List.{take-append-drop, take-append-le, take-take}
 use Rattle.std.proofs.lemmas.List.{take_all}
 use Rattle.dp_io.specs.Streams.{Gave, Grew}
 use Rattle.dp_io.proofs.Grown.{Grew-append}
-use Rattle.dp_cli.specs.Sessions.{GrewInPart}
+use Rattle.dp_words.specs.Shown.{GrewInPart}
 
 pub gave-more : (before middle after : Option (List ℕ)) (xs ys : List ℕ) → Gave before middle xs
     → Gave middle after ys → Gave before after (xs ++ ys)

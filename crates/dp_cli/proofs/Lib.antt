@@ -1,8 +1,11 @@
 pub mod Answered
+pub mod Answers
 pub mod Arguments
 pub mod Closed
+pub mod Counted
 pub mod Endings
+pub mod Fronts
 pub mod Given
 pub mod Logs
-pub mod WordLemmas
+pub mod Streams
 pub mod Writing

@@ -5,7 +5,7 @@ use Rattle.std.specs.List.{flat_map}
 use Rattle.std.proofs.lemmas.Grind.{flat_map-append}
 use Rattle.std.proofs.lemmas.List.{append-nil, take_more, take-append-drop}
 use Rattle.dp_io.specs.Streams.{Grew}
-use Rattle.dp_cli.specs.Sessions.{GrewInPart}
+use Rattle.dp_words.specs.Shown.{GrewInPart}
 use Rattle.dp_io.proofs.Grown.{Grew-append}
 use Rattle.dp_cli.proofs.Given.{part-front, part-back}
 

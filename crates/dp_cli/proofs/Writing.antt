@@ -2,9 +2,10 @@
 use Rattle.std.proofs.Common.{◌≡◌, ℕ, ◌≤◌, List, ◌++◌, Option, Result, Ok, Err, inl, refl, arith}
 use Rattle.dp_io.specs.Streams.{Grew}
 use Rattle.dp_io.proofs.Grown.{Grew-append}
-use Rattle.dp_cli.specs.declared.dp_words.RunStatus.{RunStatus}
-use Rattle.dp_cli.specs.declared.dp_words.RunStatus.TheVariants.{WriteFault}
-use Rattle.dp_cli.specs.Sessions.{EndsText, HasRisen, Shown, TookPart}
+use Rattle.dp_words.specs.declared.status.RunStatus.{RunStatus}
+use Rattle.dp_words.specs.declared.status.RunStatus.TheVariants.{WriteFault}
+use Rattle.dp_words.specs.Shown.{HasRisen, Shown, TookPart}
+use Rattle.dp_cli.specs.Sessions.{EndsText}
 use Rattle.dp_cli.proofs.Given.{part-front, part-back}
 
 -- a sink that showed this

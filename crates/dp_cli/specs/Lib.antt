@@ -1,4 +1,3 @@
 pub mod Sessions
-pub mod Statuses
+pub mod Steps
 pub mod Texts
-pub mod Words

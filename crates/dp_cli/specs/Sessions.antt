@@ -1,30 +1,34 @@
 -- Which history stands for which bytes, and what a session answers.
 use Rattle.std.specs.Prelude.{◌≡◌, ◌≢◌, ℕ, ◌<◌, ◌≤◌, List, [], ◌∷◌, ◌++◌, ◌⊎◌, ◌↔◌, length, map}
-use Rattle.std.specs.Prelude.{take, Option, None, IfSome, Result, Ok, Err, OnOk, IfErr, codes}
+use Rattle.std.specs.Prelude.{take, Option, Some, None, IfSome, Result, Ok, Err, OnOk, IfErr, codes}
 use Rattle.std.specs.Prelude.{slice_index_or}
+use Rattle.std.specs.List.{filter}
 use Rattle.dp_io.specs.Streams.{Rose, Gave, Grew}
 use Rattle.frame.specs.Frames.{items, items_end}
 use Rattle.frame.specs.declared.item.Item.{Item}
 use Rattle.frame.specs.declared.item.Item.TheVariants.{Body, Damaged}
-use Rattle.plant_model.specs.Demo.{demo_parts}
 use Rattle.plant_model.specs.declared.plant.Parts.{Parts}
 use Rattle.plant_model.specs.declared.limits.TheConstants.{MOST_ENTRIES, MOST_STREAM_BYTES}
-use Rattle.plant_core.specs.Telegrams.{telegram}
-use Rattle.plant_core.specs.Machine.{IsLegal}
-use Rattle.plant_core.specs.declared.telegram.Telegram.{Telegram}
-use Rattle.plant_core.specs.declared.telegram.Reject.{Reject}
+use Rattle.telegram.specs.Telegrams.{telegram}
+use Rattle.telegram.specs.declared.telegram.Telegram.{Telegram}
+use Rattle.telegram.specs.declared.telegram.Telegram.TheVariants.{Position, Wind}
+use Rattle.telegram.specs.declared.telegram.Reject.{Reject}
+use Rattle.plant_core.specs.Machine.{IsLegal, is_event}
 use Rattle.plant_core.specs.declared.call.Note.TheVariants as notes
 use Rattle.plant_core.specs.declared.call.Call.{Call}
 use Rattle.plant_core.specs.declared.call.Call.TheVariants as calls
 use Rattle.plant_core.specs.declared.call.Entry.{Entry}
 use Rattle.dp_cli.specs.declared.session.Ending.{Ending}
-use Rattle.dp_cli.specs.declared.session.Ending.TheVariants.{End, Fault, Long}
-use Rattle.dp_cli.specs.declared.dp_words.RunStatus.{RunStatus}
-use Rattle.dp_cli.specs.declared.dp_words.RunStatus.TheVariants as statuses
-use Rattle.dp_cli.specs.declared.dp_words.PlantFault.{PlantFault}
-use Rattle.dp_cli.specs.declared.dp_words.Form.TheVariants.{Replay}
-use Rattle.dp_cli.specs.Words.{form_of}
-use Rattle.dp_cli.specs.Statuses.{status_text}
+use Rattle.dp_cli.specs.declared.session.Ending.TheVariants.{End, Fault, Long, Full}
+use Rattle.dp_words.specs.declared.status.RunStatus.{RunStatus}
+use Rattle.dp_words.specs.declared.status.RunStatus.TheVariants as statuses
+use Rattle.plant_file.specs.declared.fault.PlantFault.{PlantFault}
+use Rattle.dp_words.specs.declared.form.Form.TheVariants.{Replay}
+use Rattle.plant_file.specs.PlantText.{plant_of}
+use Rattle.dp_words.specs.PlantSource.{PlantSays}
+use Rattle.dp_words.specs.Shown.{HasRisen, IsEmptied, Shown, Took, TookPart}
+use Rattle.dp_words.specs.Words.{form_of}
+use Rattle.dp_words.specs.Statuses.{IsTold}
 use Rattle.dp_cli.specs.Texts.{log_text, report_text}
 
 -- ---- the history of a stream
@@ -33,10 +37,16 @@ use Rattle.dp_cli.specs.Texts.{log_text, report_text}
 abbrev pub Asked : Type 0
 Asked = ℕ × Call
 
--- a telegram is asked by the operators, caller 2; why a body is none is noted by the control loop,
--- caller 1
+-- a position and a wind are asked by the control loop, caller 1, and any other telegram by the
+-- operators, caller 2
+abbrev pub caller_of : Telegram → ℕ
+caller_of (Position moment x y heading) = 1
+caller_of (Wind moment speed angle) = 1
+caller_of _ = 2
+
+-- why a body is no telegram is noted by the control loop
 abbrev pub asked_by : Result Telegram Reject → Asked
-asked_by (Ok telegram) = (2, calls.Telegram telegram)
+asked_by (Ok telegram) = (caller_of telegram, calls.Telegram telegram)
 asked_by (Err reject) = (1, calls.Note (notes.Rejected reject))
 
 -- what is asked for an item
@@ -48,13 +58,18 @@ asked_for (Damaged damage) = (1, calls.Note (notes.Damaged damage))
 abbrev pub asked : Entry → Asked
 asked entry = (entry.caller, entry.call)
 
+-- these elements are the first of the others, and there is one more
+abbrev pub IsFront : {A : Type 0} → List A → List A → Type 0
+IsFront {A} front all = (next : A) × (rest : List A) × (all ≡ front ++ next ∷ rest)
+
 -- The items that are answered of the bytes of a stream with this ending: at the end of input all,
--- at a read fault those of the whole lines, and of a stream that is too long those of as many bytes
--- as a stream may have.
-abbrev pub items_until : Ending → List ℕ → List Item
-items_until End bytes = items_end bytes
-items_until Fault bytes = items bytes
-items_until Long bytes = items (take MOST_STREAM_BYTES bytes)
+-- at a read fault those of the whole lines, of a stream that is too long those of as many bytes as
+-- a stream may have, and where the history is full those before the first that had no room.
+abbrev pub AreAnswered : Ending → List ℕ → List Item → Type 0
+AreAnswered End bytes answered = answered ≡ items_end bytes
+AreAnswered Fault bytes answered = answered ≡ items bytes
+AreAnswered Long bytes answered = answered ≡ items (take MOST_STREAM_BYTES bytes)
+AreAnswered Full bytes answered = IsFront answered (items_end bytes)
 
 -- the history answers these items, one entry each and in order
 abbrev pub AnswersItems : List Entry → List Item → Type 0
@@ -64,57 +79,28 @@ AnswersItems history answered = map asked history ≡ map asked_for answered
 abbrev pub AnswersAll : List Entry → List Item → Type 0
 AnswersAll history answered = map asked history ≡ map asked_for answered ++ (0, calls.Close) ∷ []
 
--- what a source or a sink showed of its bytes and its faults, before a call and after it
-pub record Shown : Type 0 where
-  pub before : Option (List ℕ)
-  pub after : Option (List ℕ)
-  pub faults_before : ℕ
-  pub faults_after : ℕ
+-- how many telegrams and notes a history has
+abbrev pub events_in : List Entry → ℕ
+events_in history = length (filter (λ entry. is_event entry.call) history)
 
--- what these two members show of it
-abbrev pub shown : {S : Type 0} → (S → Option (List ℕ)) → (S → ℕ) → S → S → Shown
-shown bytes faults old new = record {
-  before = bytes old;
-  after = bytes new;
-  faults_before = faults old;
-  faults_after = faults new;
-}
-
--- its count of faults rose
-abbrev pub HasRisen : Shown → Type 0
-HasRisen shown = Rose shown.faults_before shown.faults_after
-
--- the source has no byte left, if it tells its bytes
-abbrev pub IsEmptied : Shown → Type 0
-IsEmptied source = IfSome source.after (λ left. left ≡ [])
-
--- when a stream of these bytes may end so
-abbrev pub MayEnd : Shown → List ℕ → Ending → Type 0
-MayEnd source bytes End = IsEmptied source
-MayEnd source bytes Fault = HasRisen source
-MayEnd source bytes Long = MOST_STREAM_BYTES < length bytes
+-- when a stream of these bytes may end so, with this history
+abbrev pub MayEnd : Shown → List ℕ → List Entry → Ending → Type 0
+MayEnd source bytes history End = IsEmptied source
+MayEnd source bytes history Fault = HasRisen source
+MayEnd source bytes history Long = MOST_STREAM_BYTES < length bytes
+MayEnd source bytes history Full = events_in history ≡ MOST_ENTRIES
 
 -- The history stands for what the source gave in the call, and for its ending: it is legal for the
--- plant, and answers each item once.
+-- plant, and answers each of these items once.
 pub record StandsForStream (plant : Parts) (source : Shown) (ending : Ending)
     (history : List Entry) : Type 0 where
   pub bytes : List ℕ
+  pub answered : List Item
   pub given : Gave source.before source.after bytes
-  pub ends : MayEnd source bytes ending
+  pub ends : MayEnd source bytes history ending
+  pub of_bytes : AreAnswered ending bytes answered
   pub legal : IsLegal plant MOST_ENTRIES history
-  pub answers : AnswersAll history (items_until ending bytes)
-
--- what was taken grew by the first bytes of the text
-abbrev pub GrewInPart : Option (List ℕ) → Option (List ℕ) → List ℕ → Type 0
-GrewInPart before after text = (count : ℕ) × Grew before after (take count text)
-
--- a sink took the text
-abbrev pub Took : Shown → List ℕ → Type 0
-Took sink text = Grew sink.before sink.after text
-
--- a sink took the first bytes of the text
-abbrev pub TookPart : Shown → List ℕ → Type 0
-TookPart sink text = GrewInPart sink.before sink.after text
+  pub answers : AnswersAll history answered
 
 -- what is written of a history
 abbrev pub written : Parts → List Entry → List ℕ
@@ -140,6 +126,7 @@ abbrev pub status_of : Ending → RunStatus
 status_of End = statuses.Clear
 status_of Fault = statuses.ReadFault
 status_of Long = statuses.StreamTooLong
+status_of Full = statuses.JournalFull
 
 -- what can go wrong in writing: a fault of the sink, or no memory for a text
 abbrev pub IsWriteError : RunStatus → Type 0
@@ -159,71 +146,132 @@ pub record EndsText (result : Result (Unit {0}) RunStatus) (sink : Shown) (text 
   pub part : result ≡ Err statuses.WriteFault → TookPart sink text
   pub writing : EndsWriting result sink
 
--- What the bytes written say at each status: the whole history where the status is that of an
--- ending, its beginning at a write fault, and nothing at faulty words and at another plant than the
--- demo.
-pub record HasHistory (status : RunStatus) (source out : Shown) : Type 0 where
-  pub whole : (ending : Ending) → status ≡ status_of ending
-      → WritesWhole demo_parts ending source out
-  pub part : status ≡ statuses.WriteFault → WritesPart demo_parts source out
-  pub usage : (kind : ℕ) → status ≡ statuses.Usage kind → out.after ≡ out.before
-  pub plant : (fault : PlantFault) → status ≡ statuses.Plant fault → out.after ≡ out.before
-
 -- the words have the form of `replay`, with this word as the plant
 abbrev pub HasPlant : List (List ℕ) → List ℕ → Type 0
 HasPlant words word = (plant : ℕ) × (telegrams : ℕ)
     × (form_of words ≡ Ok (Replay plant telegrams)) × (word ≡ slice_index_or words plant [])
 
--- the words have that form, and their plant isn't the demo
-abbrev pub HasOtherPlant : List (List ℕ) → Type 0
-HasOtherPlant words = (word : List ℕ) × HasPlant words word × (word ≢ codes "demo")
+-- what the plant's word among the words, and the plant source, say of the plant
+pub record WordsSay (words : List (List ℕ)) (first : Shown) (answer : Result Parts PlantFault)
+    : Type 0 where
+  pub word : List ℕ
+  pub named : HasPlant words word
+  pub says : PlantSays word first answer
+
+-- the words name a file as the plant, and the plant source, which tells its bytes, says this of it
+pub record FileTells (words : List (List ℕ)) (first : Shown) (answer : Result Parts PlantFault)
+    : Type 0 where
+  pub word : List ℕ
+  pub named : HasPlant words word
+  pub other : word ≢ codes "demo"
+  pub bytes : List ℕ
+  pub told : first.before ≡ Some bytes
+  pub is : plant_of bytes ≡ answer
+
+-- What was written is the log and report of a history of the plant that the words and the plant
+-- source say.
+pub record WritesWholeOf (words : List (List ℕ)) (ending : Ending) (first source out : Shown)
+    : Type 0 where
+  pub plant : Parts
+  pub says : WordsSay words first (Ok plant)
+  pub writes : WritesWhole plant ending source out
+
+-- What was written begins the log and report of such a history.
+pub record WritesPartOf (words : List (List ℕ)) (first source out : Shown) : Type 0 where
+  pub plant : Parts
+  pub says : WordsSay words first (Ok plant)
+  pub writes : WritesPart plant source out
+
+-- the plant source failed, and nothing was written
+pub record FailsFirst (ending : Ending) (first out : Shown) : Type 0 where
+  pub is_fault : ending ≡ Fault
+  pub failed : HasRisen first
+  pub unwritten : out.after ≡ out.before
+
+-- What the bytes written say at each status: the whole history where the status is that of an
+-- ending, its beginning at a write fault, and nothing at faulty words, at a faulty plant, and at a
+-- read fault of the plant source.
+pub record HasHistory (words : List (List ℕ)) (status : RunStatus) (first source out : Shown)
+    : Type 0 where
+  pub whole : (ending : Ending) → status ≡ status_of ending
+      → WritesWholeOf words ending first source out ⊎ FailsFirst ending first out
+  pub part : status ≡ statuses.WriteFault → WritesPartOf words first source out
+  pub usage : (kind : ℕ) → status ≡ statuses.Usage kind → out.after ≡ out.before
+  pub plant : (fault : PlantFault) → status ≡ statuses.Plant fault → out.after ≡ out.before
 
 -- the source gave more bytes than a stream may have
 abbrev pub GaveTooMany : Shown → Type 0
 GaveTooMany source =
     (bytes : List ℕ) × Gave source.before source.after bytes × (MOST_STREAM_BYTES < length bytes)
 
--- the source tells its bytes, and they are at most as many as a stream may have
+-- more items than a history has room for
+abbrev pub AreTooMany : List Item → Type 0
+AreTooMany given = MOST_ENTRIES < length given
+
+-- the source gave more items than a history has room for, the damage of its end among them where it
+-- has no byte left
+abbrev pub GaveTooManyItems : Shown → Type 0
+GaveTooManyItems source = (bytes : List ℕ) × Gave source.before source.after bytes
+    × (AreTooMany (items bytes) ⊎ (AreTooMany (items_end bytes) × IsEmptied source))
+
+-- at most as many bytes as a stream may have, and at most as many items as a history has room for
+pub record AreFew (bytes : List ℕ) : Type 0 where
+  pub few_bytes : length bytes ≤ MOST_STREAM_BYTES
+  pub few_items : length (items_end bytes) ≤ MOST_ENTRIES
+
+-- the source tells its bytes, and they are few
 abbrev pub TellsFew : Shown → Type 0
-TellsFew source =
-    IfSome source.before (λ bytes. length bytes ≤ MOST_STREAM_BYTES) × (source.before ≢ None)
+TellsFew source = IfSome source.before AreFew × (source.before ≢ None)
 
 -- When each status comes.
-pub record HasCause (words : List (List ℕ)) (status : RunStatus) (source out : Shown) : Type 0 where
+pub record HasCause (words : List (List ℕ)) (status : RunStatus) (first source out : Shown) : Type
+    0 where
   -- exactly where the words have no written form, with what is wrong with them
   pub usage : (kind : ℕ) → (status ≡ statuses.Usage kind) ↔ (form_of words ≡ Err kind)
-  -- exactly where they have one, and the plant isn't the demo
-  pub plant : (fault : PlantFault) → (status ≡ statuses.Plant fault) ↔ HasOtherPlant words
-  pub read_fault : status ≡ statuses.ReadFault → HasRisen source
+  -- only where they have one whose plant is a file, and the file has this fault
+  pub plant : (fault : PlantFault) → status ≡ statuses.Plant fault
+      → WordsSay words first (Err fault)
+  -- and always there, where the plant source tells its bytes and doesn't fail, unless memory runs
+  -- out
+  pub plant_told : (fault : PlantFault) → FileTells words first (Err fault) → ¬ HasRisen first
+      → (status ≡ statuses.Plant fault) ⊎ (status ≡ statuses.NoMemory)
+  pub read_fault : status ≡ statuses.ReadFault → HasRisen first ⊎ HasRisen source
   pub write_fault : status ≡ statuses.WriteFault → HasRisen out
   pub too_long : status ≡ statuses.StreamTooLong → GaveTooMany source
+  pub journal_full : status ≡ statuses.JournalFull → GaveTooManyItems source
   pub clear : status ≡ statuses.Clear → IsEmptied source
 
--- The demo plant, a source that has at most as many bytes as a stream may have, and counts of
--- faults that don't rise give Clear, unless memory runs out.
-abbrev pub IsComplete : List (List ℕ) → RunStatus → Shown → Shown → Type 0
-IsComplete words status source out =
-    HasPlant words (codes "demo") → TellsFew source → ¬ HasRisen source → ¬ HasRisen out
+-- the words name the built-in plant, or a file that the plant source tells and that describes a
+-- plant
+abbrev pub HasAPlant : List (List ℕ) → Shown → Type 0
+HasAPlant words first =
+    HasPlant words (codes "demo") ⊎ ((plant : Parts) × FileTells words first (Ok plant))
+
+-- A plant, a source that has at most as many bytes as a stream may have and items as a history has
+-- room for, and counts of faults that don't rise give Clear, unless memory runs out.
+abbrev pub IsComplete : List (List ℕ) → RunStatus → Shown → Shown → Shown → Type 0
+IsComplete words status first source out =
+    HasAPlant words first → ¬ HasRisen first → TellsFew source → ¬ HasRisen source → ¬ HasRisen out
     → (status ≡ statuses.Clear) ⊎ (status ≡ statuses.NoMemory)
 
 -- ---- what a call of the program says
 
--- How a session over recorded telegrams ends with this status, of a source and a sink that showed
--- this.
-pub record EndsSession (words : List (List ℕ)) (status : RunStatus) (source out : Shown) : Type
-    0 where
-  pub history : HasHistory status source out
-  pub causes : HasCause words status source out
-  pub complete : IsComplete words status source out
+-- How a session over recorded telegrams ends with this status, of the plant source, the stream's
+-- source and a sink that showed this.
+pub record EndsSession (words : List (List ℕ)) (status : RunStatus) (first source out : Shown)
+    : Type 0 where
+  pub history : HasHistory words status first source out
+  pub causes : HasCause words status first source out
+  pub complete : IsComplete words status first source out
 
--- the error output took the status's line, or its count of faults rose
-abbrev pub IsTold : RunStatus → Shown → Type 0
-IsTold status err = Took err (status_text status) ⊎ HasRisen err
+-- no word names a file as the plant
+abbrev pub NamesNoFile : List (List ℕ) → Type 0
+NamesNoFile words = (word : List ℕ) → HasPlant words word → word ≡ codes "demo"
 
--- How a call of the program ends with this status: the session as above, the line told, and what it
--- doesn't read, of this value before and after it, as it was.
-pub record EndsCall {U : Type 0} (words : List (List ℕ)) (status : RunStatus)
-    (unread_before unread_after : U) (source out err : Shown) : Type 0 where
-  pub session : EndsSession words status source out
+-- How a call of the program ends with this status: the session as above, the line told, and the
+-- plant source, of this value before and after it, as it was where no word names it.
+pub record EndsCall {A : Type 0} (words : List (List ℕ)) (status : RunStatus)
+    (plant_before plant_after : A) (first source out err : Shown) : Type 0 where
+  pub session : EndsSession words status first source out
   pub told : IsTold status err
-  pub unread : unread_after ≡ unread_before
+  pub unread : NamesNoFile words → plant_after ≡ plant_before

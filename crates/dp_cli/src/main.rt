@@ -4,12 +4,13 @@
 ghost use Rattle.std.specs.Prelude.{◌≡◌, drop, map, string_bytes, IfOk};
 ghost use Rattle.std.specs.Process.{exit_status};
 ghost use Rattle.std.specs.Vec.Iter.{into_iter_items};
-ghost use Rattle.dp_cli.specs.Sessions.{shown, EndsCall, IsTold};
-ghost use Rattle.dp_cli.specs.Statuses.{status_code};
-ghost use Rattle.dp_cli.specs.Words.{word_at};
-ghost use Rattle.dp_cli.specs.declared.dp_words.RunStatus.{RunStatus as Status};
+ghost use Rattle.dp_words.specs.Shown.{shown};
+ghost use Rattle.dp_words.specs.Statuses.{IsTold};
+ghost use Rattle.dp_cli.specs.Sessions.{EndsCall};
+ghost use Rattle.dp_words.specs.Statuses.{status_code};
+ghost use Rattle.dp_words.specs.Words.{word_at};
+ghost use Rattle.dp_words.specs.declared.status.RunStatus.{RunStatus as Status};
 
-pub mod dp_words;
 pub mod log_text;
 mod replay;
 mod session;
@@ -106,10 +107,10 @@ fn exit_of<
     gate: &G,
 ) -> ExitCode
     ensures { (status : Status) × (exit_status result ≡ status_code status)
-        × EndsCall {U = A × C} (map string_bytes words.now) status
-        (first.old, third.old) (first.new, third.new)
-        (shown B.left B.faults second.old second.new) (shown O.taken O.faults out.old out.new)
-        (shown E.taken E.faults err.old err.new) }
+        × EndsCall (map string_bytes words.now) status first.old first.new
+        (shown A.left A.faults first.old first.new) (shown B.left B.faults second.old second.new)
+        (shown O.taken O.faults out.old out.new) (shown E.taken E.faults err.old err.new)
+        × (third.new ≡ third.old) }
 {
     let status = run(rt, alloc, words, first, second, third, out, err, gate);
     ExitCode::from(status.code())

@@ -1,23 +1,30 @@
 //! A session over one stream: each item of the stream is a call of the machine, and the history is written at the
 //! end.
-ghost use Rattle.std.specs.Prelude.{◌≡◌, ◌<◌, ◌≤◌, ◌+◌, List, ℕ, [], ◌∷◌, ◌++◌, length, OnOk};
+ghost use Rattle.std.specs.Prelude.{◌≡◌, ◌≤◌, List, ℕ, [], ◌∷◌, ◌++◌, OnOk};
 ghost use Rattle.std.specs.Prelude.{OnErr, IfOk, IfErr};
 ghost use Rattle.dp_io.specs.Streams.{Gave, Rose};
 ghost use Rattle.frame.specs.Frames.{StandsFor, items};
 ghost use Rattle.frame.specs.declared.item.Item.{Item as FrameItem};
-ghost use Rattle.dp_cli.specs.Sessions.{asked_for, AnswersItems, items_until, MayEnd, shown};
-ghost use Rattle.dp_cli.specs.Sessions.{status_of, written, Took, TookPart, EndsText, EndsWriting};
+ghost use Rattle.telegram.specs.declared.telegram.Telegram.{Telegram as TelegramKind};
+ghost use Rattle.plant_core.specs.Machine.{IsCall};
+ghost use Rattle.dp_cli.specs.Sessions.{asked_for, caller_of, AnswersItems};
+ghost use Rattle.dp_words.specs.Shown.{shown};
+ghost use Rattle.dp_cli.specs.Sessions.{GaveTooManyItems};
+ghost use Rattle.dp_cli.specs.Steps.{TakesBytes, TakesEnd, TakesItem, TakesStream};
+ghost use Rattle.dp_words.specs.Shown.{Took, TookPart};
+ghost use Rattle.dp_cli.specs.Sessions.{status_of, written, EndsText, EndsWriting};
 ghost use Rattle.dp_cli.specs.Sessions.{WritesWhole, WritesPart};
 ghost use Rattle.dp_cli.specs.Texts.{log_text, report_text};
 
-use crate::dp_words::RunStatus;
 use crate::log_text;
 use dp_io::{Failed, NoMemory, Sink, Source, send_all};
+use dp_words::RunStatus;
 use frame::{Framer, Item};
-use plant_core::{Call, Core, Note, telegram};
+use plant_core::{Call, Core, Note, Reply};
 use plant_model::limits::{MOST_ENTRIES, MOST_STREAM_BYTES};
 use plant_model::plant::Plant;
 use std::alloc::Global;
+use telegram::Telegram;
 
 /// The callers of a session on one thread: the session itself, the control loop and the operators.
 const SESSION: u32 = 0;
@@ -38,54 +45,82 @@ pub enum Ending {
     Fault,
     /// A byte more than a stream may have.
     Long,
+    /// An item more than a history has room for.
+    Full,
+}
+
+/// Who asks for what a telegram says: the control loop at the telegrams of sensors, else the operators.
+fn caller_of(telegram: &Telegram) -> u32
+    ensures { result ≡ caller_of telegram.now }
+{
+    match telegram {
+        Telegram::Position { .. } | Telegram::Wind { .. } => CONTROL_LOOP,
+        _ => OPERATORS,
+    }
 }
 
 /// What is asked for an item, and by which caller.
 fn asked_for(item: Item) -> (u32, Call)
-    ensures { result ≡ asked_for item }
+    ensures asked { result ≡ asked_for item }
+    ensures within { IsCall result.1 }
 {
     match item {
         Item::Body(body) => match telegram::read(&body) {
-            Ok(telegram) => (OPERATORS, Call::Telegram(telegram)),
+            Ok(telegram) => (caller_of(&telegram), Call::Telegram(telegram)),
             Err(reject) => (CONTROL_LOOP, Call::Note(Note::Rejected(reject))),
         },
         Item::Damaged(damage) => (CONTROL_LOOP, Call::Note(Note::Damaged(damage))),
     }
 }
 
-/// Answers an item: its call is the next entry of the history.
-fn take_item(core: &mut Core, item: Item) -> Result<(), NoMemory>
-    requires room { (answered : List FrameItem) × AnswersItems core.old.history answered
-        × (length answered < core.old.limit) }
+/// Answers an item: its call is the next entry of the history. False where the history has no room for it, and then
+/// nothing changed.
+fn take_item(core: &mut Core, item: Item) -> Result<bool, NoMemory>
+    requires { (answered : List FrameItem) × AnswersItems core.old.history answered }
     ensures plant { core.new.plant ≡ core.old.plant }
     ensures limit { core.new.limit ≡ core.old.limit }
-    ensures answered { OnOk result ((answered : List FrameItem)
-        → AnswersItems core.old.history answered
-        → AnswersItems core.new.history (answered ++ item ∷ [])) }
+    ensures answered { IfOk result (λ has_room. TakesItem has_room core.old core.new item) }
 {
     let (caller, call) = asked_for(item);
-    core.apply(caller, call)?;
-    Ok(())
+    let reply = core.apply(caller, call)?;
+    Ok(!matches!(reply, Reply::JournalFull))
 }
 
-/// Answers the items that these bytes of the stream complete.
-fn take_bytes(core: &mut Core, framer: &mut Framer, bytes: &[u8]) -> Result<(), NoMemory>
-    requires room { (fed : List ℕ) × StandsFor framer.old fed
-        × AnswersItems core.old.history (items fed)
-        × (length fed + length bytes.now ≤ MOST_STREAM_BYTES) × (core.old.limit ≡ MOST_ENTRIES) }
+/// Answers the items that these bytes of the stream complete. False at the first that the history has no room for.
+fn take_bytes(core: &mut Core, framer: &mut Framer, bytes: &[u8]) -> Result<bool, NoMemory>
+    requires { (fed : List ℕ) × StandsFor framer.old fed
+        × AnswersItems core.old.history (items fed) }
     ensures plant { core.new.plant ≡ core.old.plant }
     ensures limit { core.new.limit ≡ core.old.limit }
-    ensures answered { OnOk result ((fed : List ℕ) → StandsFor framer.old fed
+    ensures answered { IfOk result (λ has_room. (fed : List ℕ) → StandsFor framer.old fed
         → AnswersItems core.old.history (items fed)
-        → StandsFor framer.new (fed ++ bytes.now)
-        × AnswersItems core.new.history (items (fed ++ bytes.now))) }
+        → TakesBytes has_room core.new framer.new (fed ++ bytes.now)) }
 {
     for byte in bytes {
         if let Some(item) = framer.feed(*byte) {
-            take_item(core, item)?;
+            if !take_item(core, item)? {
+                return Ok(false);
+            }
         }
     }
-    Ok(())
+    Ok(true)
+}
+
+/// Answers the item that the end of the stream completes.
+fn take_end(core: &mut Core, framer: &mut Framer) -> Result<Ending, NoMemory>
+    requires { (fed : List ℕ) × StandsFor framer.old fed
+        × AnswersItems core.old.history (items fed) }
+    ensures plant { core.new.plant ≡ core.old.plant }
+    ensures limit { core.new.limit ≡ core.old.limit }
+    ensures answered { IfOk result (λ ending. (fed : List ℕ) → StandsFor framer.old fed
+        → AnswersItems core.old.history (items fed) → TakesEnd ending core.new fed) }
+{
+    if let Some(item) = framer.finish() {
+        if !take_item(core, item)? {
+            return Ok(Ending::Full);
+        }
+    }
+    Ok(Ending::End)
 }
 
 /// Answers each item of a stream until the stream ends, in whatever pieces its bytes come.
@@ -94,10 +129,8 @@ fn take_stream<S: Source>(core: &mut Core, source: &mut S) -> Result<Ending, NoM
     requires limit { core.old.limit ≡ MOST_ENTRIES }
     ensures plant { core.new.plant ≡ core.old.plant }
     ensures limit { core.new.limit ≡ core.old.limit }
-    ensures answered { IfOk result (λ ending. (bytes : List ℕ)
-        × Gave (S.left source.old) (S.left source.new) bytes
-        × MayEnd (shown S.left S.faults source.old source.new) bytes ending
-        × AnswersItems core.new.history (items_until ending bytes)) }
+    ensures answered { IfOk result (λ ending. TakesStream ending
+        (shown S.left S.faults source.old source.new) core.new.history) }
     ensures counted { S.faults source.old ≤ S.faults source.new }
 {
     let mut framer = Framer::new();
@@ -105,16 +138,14 @@ fn take_stream<S: Source>(core: &mut Core, source: &mut S) -> Result<Ending, NoM
     let mut room = MOST_STREAM_BYTES;
     while let Ok(count) = source.read(&mut piece) {
         if count == 0 {
-            if let Some(item) = framer.finish() {
-                take_item(core, item)?;
-            }
-            return Ok(Ending::End);
+            return take_end(core, &mut framer);
+        }
+        if !take_bytes(core, &mut framer, &piece[..count.min(room)])? {
+            return Ok(Ending::Full);
         }
         if count > room {
-            take_bytes(core, &mut framer, &piece[..room])?;
             return Ok(Ending::Long);
         }
-        take_bytes(core, &mut framer, &piece[..count])?;
         room -= count;
     }
     Ok(Ending::Fault)
@@ -178,6 +209,7 @@ impl Ending {
             Ending::End => RunStatus::Clear,
             Ending::Fault => RunStatus::ReadFault,
             Ending::Long => RunStatus::StreamTooLong,
+            Ending::Full => RunStatus::JournalFull,
         }
     }
 }
@@ -192,6 +224,8 @@ pub fn session<S: Source, O: Sink>(
 ) -> Result<Ending, RunStatus>
     ensures ended { IfOk result (λ ending. WritesWhole plant ending
         (shown S.left S.faults source.old source.new) (shown O.taken O.faults out.old out.new)) }
+    ensures full { result ≡ Ok Ending.Full
+        → GaveTooManyItems (shown S.left S.faults source.old source.new) }
     ensures cut { result ≡ Err RunStatus.WriteFault → WritesPart plant
         (shown S.left S.faults source.old source.new) (shown O.taken O.faults out.old out.new) }
     ensures writing { EndsWriting result (shown O.taken O.faults out.old out.new) }

@@ -50,7 +50,8 @@ pub trait Sink {
         requires { 0 < length piece.now }
         ensures some { IfOk result (λ n. 0 < n) }
         ensures within { IfOk result (λ n. n ≤ length piece.now) }
-        ensures grew { IfOk result (λ n. Grew (taken self.old) (taken self.new) (take n piece.now)) }
+        ensures grew { IfOk result
+            (λ n. Grew (taken self.old) (taken self.new) (take n piece.now)) }
         ensures kept { OnErr result (taken self.new ≡ taken self.old) }
         ensures failed { OnErr result (Rose (faults self.old) (faults self.new)) }
         ensures counted { faults self.old ≤ faults self.new };

@@ -1,5 +1,5 @@
--- A least cut of faces is found among the normals of each two directions of the lists.
-use Rattle.std.proofs.Common.{◌≡◌, ◌⊎◌, ℤ, pos, ◌*ℤ◌, ◌≤ℤ◌, ◌<ℤ◌, List, All, arith}
+-- A least cut of faces is found among the normals of each two directions of a direction list.
+use Rattle.std.proofs.Common.{◌≡◌, ◌⊎◌, ℤ, pos, ◌*ℤ◌, ◌≤ℤ◌, ◌<ℤ◌, List, arith}
 use Rattle.std.specs.Prelude.{Contains}
 use Rattle.int_ring.proofs.Laws.{linear}
 use Rattle.int_ring.proofs.Order.{fraction_le_trans}
@@ -7,10 +7,9 @@ use Rattle.wrench_geometry.specs.declared.cut.Cut.{Cut}
 use Rattle.wrench_geometry.specs.declared.vector.Vec3.{Vec3}
 use Rattle.wrench_geometry.specs.Cuts.{IsLeastCut}
 use Rattle.wrench_geometry.specs.Vectors.{cross_of, dot_of, opposite_of, support_of}
-use Rattle.separation.specs.Directions.{SettlesDifferences, Spans}
 use Rattle.separation.proofs.Moves.{IsDirectionList}
 use Rattle.separation.proofs.Normals.{Candidate, some_candidate}
-use Rattle.exit_point.proofs.Faces.{AreFaces, IsLeastAlong, directions_of_faces}
+use Rattle.exit_point.specs.Faces.{IsLeastAlong}
 
 -- a least cut has the least quotient
 pub least_along_cut : (lists : List (List Vec3)) (d : Vec3) (cut : Cut) → IsLeastCut lists d cut →
@@ -29,26 +28,20 @@ IsAtMostNormals lists d directions top bottom =
     (w ≡ cross_of a b) ⊎ (w ≡ opposite_of (cross_of a b)) → pos 1 ≤ℤ dot_of w d →
     (top *ℤ dot_of w d) ≤ℤ (support_of lists w *ℤ bottom)
 
--- where the directions are those of the lists, what is at most the normals on the faces is the
--- least there
-pub least_beside : (lists : List (List Vec3)) (directions : List Vec3) (w : Vec3)
-    (points : List Vec3) (faces : List (List Vec3)) (d u : Vec3) (top bottom : ℤ) →
-    AreFaces w lists points faces → Spans directions → All (SettlesDifferences directions) lists →
+-- what is at most the normals of a direction list is the least
+pub least_beside : (faces : List (List Vec3)) (directions : List Vec3) (d u : Vec3)
+    (top bottom : ℤ) → IsDirectionList (support_of faces) directions →
     bottom ≡ dot_of u d → top ≡ support_of faces u → pos 1 ≤ℤ bottom →
     IsAtMostNormals faces d directions top bottom →
     IsLeastAlong faces d u top bottom
-least_beside lists directions w points faces d u top bottom are spans settled bottom_is top_is
-    ahead at_most = record {
-      bottom_is = bottom_is;
-      top_is = top_is;
-      ahead = ahead;
-      least = λ x x_ahead. from_candidate x x_ahead
-          (some_candidate (support_of faces) directions is d x x_ahead);
-    }
+least_beside faces directions d u top bottom is bottom_is top_is ahead at_most = record {
+  bottom_is = bottom_is;
+  top_is = top_is;
+  ahead = ahead;
+  least = λ x x_ahead. from_candidate x x_ahead
+      (some_candidate (support_of faces) directions is d x x_ahead);
+}
   where
-    is : IsDirectionList (support_of faces) directions
-    is = directions_of_faces directions w lists points faces are spans settled
-
     positive : {a : ℤ} → pos 1 ≤ℤ a → pos 0 <ℤ a
     positive {a} h = omega (arith, linear)
 

@@ -1,19 +1,18 @@
 -- A least cut of the face of a least cut bounds an edge by which the demand has its shares.
-use Rattle.std.proofs.Common.{◌≡◌, ℤ, pos, ◌+ℤ◌, ◌-ℤ◌, ◌*ℤ◌, ◌≤ℤ◌, ◌<ℤ◌, List, [], ◌∷◌, sym, ap, ap₂, ◌∙◌, refl, arith}
+use Rattle.std.proofs.Common.{◌≡◌, ℤ, pos, ◌+ℤ◌, ◌-ℤ◌, ◌*ℤ◌, ◌≤ℤ◌, ◌<ℤ◌, List, [], ◌∷◌, sym, ap}
+use Rattle.std.proofs.Common.{ap₂, ◌∙◌, refl, arith}
 use Rattle.int_ring.proofs.Laws.{linear}
 use Rattle.int_ring.proofs.Order.{pos_of_mul_pos}
 use Rattle.int_ring.proofs.Ring.{ring, reads}
 use Rattle.wrench_geometry.specs.declared.vector.Vec3.{Vec3}
-use Rattle.wrench_geometry.specs.Vectors.{cross_of, difference_of, dot_of, opposite_of, scaled_by, support_of}
+use Rattle.wrench_geometry.specs.Vectors.{cross_of, dot_of, opposite_of, support_of}
 use Rattle.wrench_geometry.proofs.Bounds.{same_vector}
-use Rattle.exit_point.proofs.Faces.{AreFaces, IsLeastAlong, chosen_greatest, dot_sum, dot_zero, face_bound, sum_of_all}
+use Rattle.exit_point.specs.Faces.{IsLeastAlong, rest_of}
+use Rattle.exit_point.proofs.Faces.{AreFaces, chosen_greatest, dot_sum, dot_zero, face_bound}
+use Rattle.exit_point.proofs.Faces.{sum_of_all}
 use Rattle.exit_point.proofs.Shares.{IsEdge}
 
--- what is left of the demand, top times, past the point, bottom times
-abbrev pub rest_of : ℤ → Vec3 → ℤ → Vec3 → Vec3
-rest_of top d bottom v = difference_of (scaled_by top d) (scaled_by bottom v)
-
-dot_rest : (w : Vec3) (top : ℤ) (d : Vec3) (bottom : ℤ) (v : Vec3) →
+pub dot_rest : (w : Vec3) (top : ℤ) (d : Vec3) (bottom : ℤ) (v : Vec3) →
     dot_of w (rest_of top d bottom v) ≡ top *ℤ dot_of w d -ℤ bottom *ℤ dot_of w v
 dot_rest w top d bottom v =
     ring (top ∷ bottom ∷ w.x ∷ w.y ∷ w.z ∷ d.x ∷ d.y ∷ d.z ∷ v.x ∷ v.y ∷ v.z ∷ [])

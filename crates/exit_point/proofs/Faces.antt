@@ -1,17 +1,17 @@
 -- The face on which a least cut is reached, and how far its points lie in other directions.
-use Rattle.std.proofs.Common.{◌≡◌, zero, suc, ℤ, pos, ◌+ℤ◌, ◌-ℤ◌, ◌*ℤ◌, ◌≤ℤ◌, ◌<ℤ◌, List, [], ◌∷◌, All, sym, ap, ◌∙◌, refl, subst, arith}
+use Rattle.std.proofs.Common.{◌≡◌, ℤ, pos, ◌+ℤ◌, ◌-ℤ◌, ◌*ℤ◌, ◌≤ℤ◌, ◌<ℤ◌, List, [], ◌∷◌, sym, ap}
+use Rattle.std.proofs.Common.{◌∙◌, refl, subst, arith}
 use Rattle.std.specs.Prelude.{⊤}
 use Rattle.std.proofs.lemmas.Int.{by_lt_z}
 use Rattle.int_ring.proofs.Laws.{linear}
 use Rattle.int_ring.proofs.Order.{mul_le_left, mul_le_right}
 use Rattle.int_ring.proofs.Ring.{ring, reads}
 use Rattle.wrench_geometry.specs.declared.vector.Vec3.{Vec3}
-use Rattle.wrench_geometry.specs.Vectors.{difference_of, dot_of, greatest_of, scaled_by, sum_of, support_of, zero_vector}
-use Rattle.wrench_geometry.proofs.Bounds.{same_vector}
+use Rattle.wrench_geometry.specs.Vectors.{difference_of, dot_of, greatest_of, scaled_by, sum_of}
+use Rattle.wrench_geometry.specs.Vectors.{support_of, zero_vector}
 use Rattle.wrench_geometry.proofs.Supports.{greatest_from_0, support_cons}
-use Rattle.separation.specs.Directions.{IsPoint, SettlesDifferences, Settles, Spans}
-use Rattle.separation.proofs.LeastCuts.{directions_of_sums}
-use Rattle.separation.proofs.Moves.{IsDirectionList}
+use Rattle.separation.specs.Directions.{IsPoint}
+use Rattle.exit_point.specs.Faces.{IsLeastAlong}
 use Rattle.separation.proofs.Supports.{greatest_reached, point_at_most}
 
 -- ---- definitions
@@ -35,15 +35,6 @@ AreFaces w _ _ _ = ⊥
 abbrev pub sum_of_all : List Vec3 → Vec3
 sum_of_all [] = zero_vector
 sum_of_all (v ∷ points) = sum_of v (sum_of_all points)
-
--- the quotient of w's support and its product with d is the least of all directions that are ahead
--- of d
-pub record IsLeastAlong (lists : List (List Vec3)) (d w : Vec3) (top bottom : ℤ) : Type 0 where
-  pub bottom_is : bottom ≡ dot_of w d
-  pub top_is : top ≡ support_of lists w
-  pub ahead : pos 1 ≤ℤ bottom
-  pub least : (u : Vec3) → pos 1 ≤ℤ dot_of u d →
-      (top *ℤ dot_of u d) ≤ℤ (support_of lists u *ℤ bottom)
 
 -- n times w and u
 abbrev pub towards : ℤ → Vec3 → Vec3 → Vec3
@@ -247,41 +238,3 @@ face_bound lists d w u top bottom points faces is are =
             let times = mul_le_left (pos 1) bottom n is.ahead from_0 in
             let one : n *ℤ pos 1 ≡ n = ring (n ∷ []) (search reads depth 40) refl in
             omega (arith, linear, product)
-
--- ---- directions of faces
-
--- what settles a list's differences settles those of its face, which are the same
-settles_face : (directions list face : List Vec3) (w v : Vec3) → IsFace w v list face →
-    SettlesDifferences directions list → SettlesDifferences directions face
-settles_face directions list face w v is settled a b f g =
-    subst (Settles directions) same
-    (settled (sum_of v a) (sum_of v b) (is.only a f) (is.only b g))
-  where
-    part : (v a b : ℤ) → v +ℤ a -ℤ (v +ℤ b) ≡ a -ℤ b
-    part v a b = omega (arith, linear)
-
-    same : difference_of (sum_of v a) (sum_of v b) ≡ difference_of a b
-    same = same_vector (part v.x a.x b.x) (part v.y a.y b.y) (part v.z a.z b.z)
-
-settles_faces : (directions : List Vec3) (w : Vec3) (lists : List (List Vec3)) (points : List Vec3)
-    (faces : List (List Vec3)) → AreFaces w lists points faces →
-    All (SettlesDifferences directions) lists → All (SettlesDifferences directions) faces
-settles_faces directions w [] [] [] are settled k d h = absurd (omega arith)
-settles_faces directions w [] [] (face ∷ faces) are settled k d h = elim are [ ]
-settles_faces directions w [] (v ∷ points) faces are settled k d h = elim are [ ]
-settles_faces directions w (list ∷ lists) [] faces are settled k d h = elim are [ ]
-settles_faces directions w (list ∷ lists) (v ∷ points) [] are settled k d h = elim are [ ]
-settles_faces directions w (list ∷ lists) (v ∷ points) (face ∷ faces) are settled zero d h =
-    settles_face directions list face w v are.0 (settled 0 [] (omega arith))
-settles_faces directions w (list ∷ lists) (v ∷ points) (face ∷ faces) are settled (suc k) d h =
-    settles_faces directions w lists points faces are.1
-    (λ i e p. settled (suc i) e (omega arith)) k d (omega arith)
-
--- a direction list of some lists is one of their faces
-pub directions_of_faces : (directions : List Vec3) (w : Vec3) (lists : List (List Vec3))
-    (points : List Vec3) (faces : List (List Vec3)) → AreFaces w lists points faces →
-    Spans directions → All (SettlesDifferences directions) lists →
-    IsDirectionList (support_of faces) directions
-directions_of_faces directions w lists points faces are spans settled =
-    directions_of_sums faces directions spans
-    (settles_faces directions w lists points faces are settled)

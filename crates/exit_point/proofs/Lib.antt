@@ -9,3 +9,11 @@ pub mod Planes
 pub mod Shares
 pub mod Edges
 pub mod Beside
+pub mod Farthest
+pub mod Tilts
+pub mod FacePoints
+pub mod NoMore
+pub mod Compared
+pub mod FaceDirections
+pub mod EdgeEnds
+pub mod Ends

@@ -1,5 +1,7 @@
 -- Weights of the lists so far, and of one list more.
-use Rattle.std.proofs.Common.{◌≡◌, ℕ, zero, suc, ◌+◌, ◌<◌, ◌≤◌, ℤ, pos, ◌+ℤ◌, ◌*ℤ◌, List, [], ◌∷◌, ◌++◌, length, take, get_or, min, ap, ap₂, sym, ◌∙◌, refl, arith, subst}
+use Rattle.std.proofs.Common.{◌≡◌, ℕ, zero, suc, ◌+◌, ◌<◌, ◌≤◌, ℤ, pos, ◌+ℤ◌, ◌*ℤ◌, List, [], ◌∷◌}
+use Rattle.std.proofs.Common.{◌++◌, length, take, get_or, min, ap, ap₂, sym, ◌∙◌, refl, arith}
+use Rattle.std.proofs.Common.{subst}
 use Rattle.std.proofs.lemmas.List.{length-take, take_more}
 use Rattle.int_ring.proofs.Ring.{ring, reads}
 use Rattle.arrayvec.specs.ArrayVec.{ArrayVec}

@@ -1,6 +1,7 @@
 -- How a demand is shared among a corner on a least cut and two on the edge where the ray's rest
 -- leaves the cut's face.
-use Rattle.std.proofs.Common.{◌≡◌, ℤ, pos, ◌+ℤ◌, ◌-ℤ◌, ◌*ℤ◌, ◌<ℤ◌, [], ◌∷◌, sym, ap, ap₂, ◌∙◌, refl, arith}
+use Rattle.std.proofs.Common.{◌≡◌, ℤ, pos, ◌+ℤ◌, ◌-ℤ◌, ◌*ℤ◌, ◌<ℤ◌, [], ◌∷◌, sym, ap, ap₂, ◌∙◌, refl}
+use Rattle.std.proofs.Common.{arith}
 use Rattle.int_ring.proofs.Laws.{linear}
 use Rattle.int_ring.proofs.Order.{cancel_left}
 use Rattle.int_ring.proofs.Ring.{ring, reads}

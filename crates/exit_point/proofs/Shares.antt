@@ -1,12 +1,15 @@
 -- The shares of a demand among a corner on a least cut and two on the edge of the cut's face are
 -- not below 0.
-use Rattle.std.proofs.Common.{◌≡◌, ℤ, pos, ◌+ℤ◌, ◌-ℤ◌, ◌*ℤ◌, ◌≤ℤ◌, ◌<ℤ◌, [], ◌∷◌, sym, ap, ap₂, ◌∙◌, refl, subst, arith}
+use Rattle.std.proofs.Common.{◌≡◌, ℤ, pos, ◌+ℤ◌, ◌-ℤ◌, ◌*ℤ◌, ◌≤ℤ◌, ◌<ℤ◌, [], ◌∷◌, sym, ap, ap₂, ◌∙◌}
+use Rattle.std.proofs.Common.{refl, subst, arith}
 use Rattle.int_ring.proofs.Laws.{linear, mul_nonneg, mul_pos, square_nonneg}
 use Rattle.int_ring.proofs.Order.{cancel_left, nonneg_of_mul_nonneg, pos_of_mul_pos, cancel_le_left}
 use Rattle.int_ring.proofs.Ring.{ring, reads}
 use Rattle.wrench_geometry.specs.declared.vector.Vec3.{Vec3}
 use Rattle.wrench_geometry.specs.Vectors.{cross_of, det_of, dot_of, scaled_by, sum_of}
-use Rattle.exit_point.proofs.Planes.{along_normal, both_along, det_parts, det_scaled, edge_point, first_of_e, first_of_s, first_of_v, normal_share, parts_of, second_of, second_of_e, second_of_v, turned_det}
+use Rattle.exit_point.proofs.Planes.{along_normal, both_along, det_parts, det_scaled, edge_point}
+use Rattle.exit_point.proofs.Planes.{first_of_e, first_of_s, first_of_v, normal_share, parts_of}
+use Rattle.exit_point.proofs.Planes.{second_of, second_of_e, second_of_v, turned_det}
 
 -- what is known of a demand d, of a corner v on the cut along w, and of the edge along the normal
 -- of w and u: e is from v to the edge, l and r are from there to its ends, and s is how far, times
@@ -31,7 +34,7 @@ pub record IsEdge (d w u v e s l r : Vec3) (top top_beside k m : ℤ) : Type 0 w
 
 -- ---- numbers
 
-long : (c d : Vec3) → pos 1 ≤ℤ dot_of d c → pos 0 <ℤ dot_of c c
+pub long : (c d : Vec3) → pos 1 ≤ℤ dot_of d c → pos 0 <ℤ dot_of c c
 long c d ahead =
     let n = cross_of c d in
     let square : dot_of d d *ℤ dot_of c c ≡ dot_of d c *ℤ dot_of d c +ℤ dot_of n n =
@@ -110,14 +113,14 @@ module _ (d w u v e s l r : Vec3) (top top_beside k m : ℤ)
   abbrev g : Vec3
   g = cross_of w u
 
-  at_normal : det_of v e g ≡ n
+  pub at_normal : det_of v e g ≡ n
   at_normal = normal_share w u v e is.e_flat ∙ ap₂ ◌*ℤ◌ is.on_cut is.on_edge
 
-  det_dot : (v e x : Vec3) → det_of v e x ≡ dot_of (cross_of v e) x
+  pub det_dot : (v e x : Vec3) → det_of v e x ≡ dot_of (cross_of v e) x
   det_dot v e x =
       ring (v.x ∷ v.y ∷ v.z ∷ e.x ∷ e.y ∷ e.z ∷ x.x ∷ x.y ∷ x.z ∷ []) (search reads depth 40) refl
 
-  gg_above : pos 0 <ℤ dot_of g g
+  pub gg_above : pos 0 <ℤ dot_of g g
   gg_above = long g (cross_of v e)
       (from_1 (sym (det_dot v e g) ∙ at_normal) n_from_1)
     where

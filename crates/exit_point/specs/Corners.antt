@@ -1,10 +1,11 @@
 -- Corners of the sums of lists, and shares of a weight among three of them.
-use Rattle.std.specs.Prelude.{◌≡◌, ◌⊎◌, ℕ, ℤ, pos, ◌+ℤ◌, ◌≤ℤ◌, List, slice_index_or, slice_set}
+use Rattle.std.specs.Prelude.{◌≡◌, ◌≢◌, ◌⊎◌, ℕ, ℤ, pos, ◌+ℤ◌, ◌≤ℤ◌, List, slice_index_or, slice_set}
 use Rattle.dp_num.specs.Fractions.{Divides}
 use Rattle.wrench_geometry.specs.declared.vector.Vec3.{Vec3}
 use Rattle.wrench_geometry.specs.declared.vertices.Vertex.{Vertex}
 use Rattle.wrench_geometry.specs.declared.vertices.TheConstants.{MOST_DETERMINANT}
-use Rattle.wrench_geometry.specs.Vectors.{IsVectorWithin, det_of, scaled_by, sum_of}
+use Rattle.wrench_geometry.specs.Vectors.{IsVectorWithin, cross_of, det_of, dot_of, scaled_by}
+use Rattle.wrench_geometry.specs.Vectors.{sum_of, zero_vector}
 use Rattle.wrench_geometry.specs.Vertices.{IsShort, IsVertex}
 use Rattle.wrench_geometry.specs.Wrenches.{IsSum}
 use Rattle.exit_point.specs.declared.corners.Corners.{Corners}
@@ -82,3 +83,28 @@ pub record AreSharesOf (d a b c : Vec3) (shares : Shares) : Type 0 where
   pub first : shares.first ≡ det_of d b c
   pub second : shares.second ≡ det_of d c a
   pub third : shares.third ≡ det_of d a b
+
+-- by Cramer's rule the demand has shares of three points that the cut touches: none is below 0,
+-- and some is above
+pub record IsBetween (d w a b c : Vec3) (top : ℤ) : Type 0 where
+  pub first : pos 0 ≤ℤ det_of d b c
+  pub second : pos 0 ≤ℤ det_of d c a
+  pub third : pos 0 ≤ℤ det_of d a b
+  pub some : pos 1 ≤ℤ (det_of d b c +ℤ det_of d c a +ℤ det_of d a b)
+  pub touches_first : dot_of w a ≡ top
+  pub touches_second : dot_of w b ≡ top
+  pub touches_third : dot_of w c ≡ top
+
+-- some multiple of the demand is a sum of two points that the cut touches, which aren't on one line
+-- with the origin, each times a share
+pub record IsBetweenTwo (d w a b : Vec3) (top : ℤ) : Type 0 where
+  pub times : ℤ
+  pub first : ℤ
+  pub second : ℤ
+  pub times_from_1 : pos 1 ≤ℤ times
+  pub first_from_0 : pos 0 ≤ℤ first
+  pub second_from_1 : pos 1 ≤ℤ second
+  pub meets : scaled_by times d ≡ sum_of (scaled_by first a) (scaled_by second b)
+  pub apart : cross_of a b ≢ zero_vector
+  pub touches_first : dot_of w a ≡ top
+  pub touches_second : dot_of w b ≡ top

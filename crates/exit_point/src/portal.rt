@@ -6,11 +6,12 @@ ghost use Rattle.wrench_geometry.specs.Vectors.{dot_of};
 ghost use Rattle.wrench_geometry.specs.Vertices.{IsShort};
 ghost use Rattle.wrench_geometry.specs.Wrenches.{IsDemandVector, IsSum};
 ghost use Rattle.exit_point.specs.Exits.{IsExit};
-ghost use Rattle.exit_point.specs.Corners.{AreCorners, AreShares, AreSharesOf, DividesEach, IsMultiple, total_of};
+ghost use Rattle.exit_point.specs.Corners.{AreCorners, AreShares, AreSharesOf, DividesEach};
+ghost use Rattle.exit_point.specs.Corners.{IsMultiple, total_of};
 
 use crate::corners::Corners;
 use crate::search::{Found, search};
-use crate::weights::{ExitWeights, Shares, weights};
+use crate::weights::{ExitWeights, Shares, total, weights};
 use dp_num::gcd;
 use wrench_geometry::{CUT_PARTS_BELOW, Cut, Sums, Vec3, determinant, farthest, product};
 
@@ -110,14 +111,6 @@ fn shares_of(d: Vec3, a: Vec3, b: Vec3, c: Vec3) -> Option<Shares>
         second,
         third,
     })
-}
-
-/// What the shares sum to.
-fn total(shares: Shares) -> i64
-    requires { AreShares shares }
-    ensures { result ≡ total_of shares }
-{
-    shares.first + shares.second + shares.third
 }
 
 /// The cut along a direction, divided by the greatest whole number that divides it. None where the

@@ -101,6 +101,9 @@ fn a_demand_on_the_border(rt: HostRuntime) -> Result<(), Fail> {
     // the thrusts (0, 200) and (0, 180), as weights of q
     let tunnel = [0, exit.q, 0];
     assert_eq!(rt; exit.weights[1].as_slice(), tunnel.as_slice());
+    let abeam = exit.weights[3].as_slice().get(1).ok_or("no weight")?;
+    let (abeam, whole) = (i128::from(*abeam), i128::from(exit.q));
+    assert_eq!(rt; abeam.checked_mul(20), whole.checked_mul(9));
     Ok(())
 }
 
@@ -143,4 +146,101 @@ fn gives_up_on_one_tunnel(rt: HostRuntime) {
     let mut tunnel = Sums::new();
     add(&mut tunnel, (360, 0), &TUNNEL);
     assert!(rt; portal::exit(&tunnel, at(0, 380, 0)).is_none());
+}
+
+/// The exit of a demand that isn't zero.
+fn exit_of(sums: &Sums, d: Vec3) -> Option<ExitWeights>
+    requires { IsDemandVector d }
+{
+    if d.x == 0 && d.y == 0 && d.z == 0 {
+        return None;
+    }
+    Some(exit(sums, d))
+}
+
+/// What the candidates find of a demand that isn't zero.
+fn candidate_of(sums: &Sums, d: Vec3) -> Option<ExitWeights>
+    requires { IsDemandVector d }
+{
+    if d.x == 0 && d.y == 0 && d.z == 0 {
+        return None;
+    }
+    Some(candidates::exit(sums, d))
+}
+
+/// Whether the candidates find the quotient that the portal finds.
+fn agrees(sums: &Sums, d: Vec3) -> Option<bool>
+    requires { IsDemandVector d }
+{
+    let found = candidate_of(sums, d)?;
+    let exit = portal::exit(sums, d)?;
+    let (t, q) = (i128::from(exit.t), i128::from(exit.q));
+    Some(t.checked_mul(i128::from(found.q)) == q.checked_mul(i128::from(found.t)))
+}
+
+#[test]
+fn the_candidates_agree_with_the_portal(rt: HostRuntime) {
+    let demands = [
+        at(0, 380, 0),
+        at(100, 100, 0),
+        at(500, -30, 10_000),
+        at(1, 0, 0),
+        at(-1, 0, 0),
+        at(0, -1, 0),
+        at(0, 1, 0),
+        at(0, 0, 1),
+        at(0, 0, -1),
+        at(7, -11, 1_300),
+        at(-300, 200, -40_000),
+        at(24_000, 24_000, 76_800_000),
+    ];
+    for d in demands {
+        assert_eq!(rt; agrees(&demo(), d), Some(true));
+        assert_ne!(rt; agrees(&after_a_loss(), d), Some(false));
+    }
+}
+
+#[test]
+fn the_exit_of_a_demand_on_the_border(rt: HostRuntime) -> Result<(), Fail> {
+    let exit = exit_of(&after_a_loss(), at(0, 380, 0)).ok_or("zero")?;
+    assert_eq!(rt; exit.t, exit.q);
+    let found = candidate_of(&after_a_loss(), at(0, 380, 0)).ok_or("zero")?;
+    assert_eq!(rt; found.t, found.q);
+    assert_eq!(rt; found.weights.len(), 4);
+    // the thrusts (0, 200) and (0, 180), as weights of q
+    let tunnel = [0, found.q, 0];
+    assert_eq!(rt; found.weights[1].as_slice(), tunnel.as_slice());
+    Ok(())
+}
+
+#[test]
+fn one_tunnel_is_answered_by_the_candidates(rt: HostRuntime) -> Result<(), Fail> {
+    let mut tunnel = Sums::new();
+    add(&mut tunnel, (360, 0), &TUNNEL);
+    let off = exit_of(&tunnel, at(0, 380, 0)).ok_or("zero")?;
+    assert_eq!(rt; (off.t, off.cut.top), (0, 0));
+    let along = exit_of(&tunnel, at(0, 100, 36_000)).ok_or("zero")?;
+    let (t, q) = (i128::from(along.t), i128::from(along.q));
+    assert_eq!(rt; Some(t), q.checked_mul(2));
+    Ok(())
+}
+
+#[test]
+fn two_tunnels_are_answered_by_the_candidates(rt: HostRuntime) -> Result<(), Fail> {
+    let mut tunnels = Sums::new();
+    add(&mut tunnels, (400, 0), &TUNNEL);
+    add(&mut tunnels, (360, 0), &TUNNEL);
+    let exit = exit_of(&tunnels, at(0, 100, 38_000)).ok_or("zero")?;
+    let (t, q) = (i128::from(exit.t), i128::from(exit.q));
+    assert_eq!(rt; Some(t), q.checked_mul(4));
+    Ok(())
+}
+
+#[test]
+fn no_thruster_is_answered(rt: HostRuntime) -> Result<(), Fail> {
+    let exit = exit_of(&Sums::new(), at(1, 0, 0)).ok_or("zero")?;
+    assert_eq!(rt; exit.t, 0);
+    let found = candidate_of(&Sums::new(), at(1, 0, 0)).ok_or("zero")?;
+    assert_eq!(rt; found.t, 0);
+    Ok(())
 }

@@ -45,6 +45,14 @@ pub struct Places {
     pub third: usize,
 }
 
+/// What the shares sum to.
+pub fn total(shares: Shares) -> i64
+    requires { AreShares shares }
+    ensures { result ≡ total_of shares }
+{
+    shares.first + shares.second + shares.third
+}
+
 /// The weights of each list where three corners have their shares.
 pub fn weights(
     sums: &Sums,

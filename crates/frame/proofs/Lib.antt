@@ -3,3 +3,4 @@ pub mod Counts
 pub mod Exact
 pub mod Lines
 pub mod StreamItems
+pub mod Written

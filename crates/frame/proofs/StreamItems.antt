@@ -1,18 +1,18 @@
 -- What one more byte of a stream does to its items and to what is kept of its open line.
-use Rattle.std.proofs.Common.{◌≡◌, ℕ, ◌+◌, ◌-◌, ◌<◌, ◌≤◌, List, [], ◌∷◌, ◌++◌, length, take, drop}
+use Rattle.std.proofs.Common.{◌≡◌, ℕ, ◌+◌, ◌<◌, ◌≤◌, List, [], ◌∷◌, ◌++◌, length}
 use Rattle.std.proofs.Common.{Bool, true, false, cond, ◌==◌, Option, Some, None, refl, ap, sym, ◌∙◌}
-use Rattle.std.proofs.Common.{arith, length-append, length-take, length-drop}
+use Rattle.std.proofs.Common.{arith, length-append, length-take}
 use Rattle.std.proofs.lemmas.Bool.Decides.{nat_tests}
 use Rattle.std.proofs.lemmas.List.Elements.{filter_map-append}
 use Rattle.std.specs.List.{filter_map, cons_option}
 use Rattle.std.specs.Option.{option_to_list}
 use Rattle.std.specs.Str.Lines.{strip_carriage_return}
-use Rattle.frame.specs.declared.framer.TheConstants.{MOST_FRAME_BYTES, MOST_LINE_BYTES}
-use Rattle.frame.specs.declared.item.Damage.TheVariants.{Shape}
+use Rattle.frame.specs.declared.framer.TheConstants.{MOST_LINE_BYTES}
+use Rattle.frame.specs.declared.item.TheConstants.{MOST_FRAME_BYTES}
+use Rattle.frame.specs.declared.item.Damage.TheVariants.{TooLong}
 use Rattle.frame.specs.declared.item.Item.{Item}
 use Rattle.frame.specs.declared.item.Item.TheVariants.{Damaged}
-use Rattle.frame.specs.Bodies.{is_body}
-use Rattle.frame.specs.Frames.{StandsFor, all_but_last, between_feeds, frame_body, item_of_line}
+use Rattle.frame.specs.Frames.{StandsFor, all_but_last, between_feeds, item_of_line}
 use Rattle.frame.specs.Frames.{items, kept, last_of, line_feed, open_line, whole_lines}
 use Rattle.frame.proofs.Lines.{all_but_last-append, last_of-append, slice_split-append_yes}
 use Rattle.frame.proofs.Lines.{slice_split-append_no, slice_split-parts}
@@ -69,22 +69,11 @@ length-strip_carriage_return : (line : List ℕ)
     → length line ≤ length (strip_carriage_return line) + 1
 length-strip_carriage_return line = grind (arith, nat_tests, length-take)
 
--- the body of a long content would be too long
-frame_body-long : (content : List ℕ) → MOST_FRAME_BYTES < length content → frame_body content ≡ None
-frame_body-long content long =
-    let count : length (take (length content - 4) (drop 1 content)) ≡ length content - 4 =
-    simp (length-take, length-drop) (omega arith) in
-    let no_body : is_body (take (length content - 4) (drop 1 content)) ≡ false =
-    grind (arith, nat_tests) in
-    grind (arith, nat_tests)
-
 pub item_of_line-overlong : (line : List ℕ) → MOST_LINE_BYTES < length line
-    → item_of_line line ≡ Some (Damaged Shape)
+    → item_of_line line ≡ Some (Damaged TooLong)
 item_of_line-overlong line long =
     let content : MOST_FRAME_BYTES < length (strip_carriage_return line) =
     omega (arith, length-strip_carriage_return line) in
-    let no_frame : frame_body (strip_carriage_return line) ≡ None =
-    frame_body-long (strip_carriage_return line) content in
     grind (arith, nat_tests)
 
 -- ---- what is kept
@@ -112,9 +101,9 @@ items-kept bytes fed stands =
     items-feed fed ∙ ap (λ (line : List ℕ). items fed ++ option_to_list (item_of_line line))
     (sym (kept-is (open_line fed) bytes stands).0)
 
--- and is damage where none are kept
+-- and is a damage where none are kept
 pub items-overlong : (fed : List ℕ) → StandsFor None fed
-    → items (fed ++ line_feed ∷ []) ≡ items fed ++ Damaged Shape ∷ []
+    → items (fed ++ line_feed ∷ []) ≡ items fed ++ Damaged TooLong ∷ []
 items-overlong fed stands =
     items-feed fed
     ∙ ap (λ (item : Option Item). items fed ++ option_to_list item)

@@ -1,18 +1,21 @@
 -- The items of a stream of bytes: the lines between its line feeds, and the frames among them.
-use Rattle.std.specs.Prelude.{◌≡◌, ℕ, ◌+◌, ◌-◌, ◌*◌, List, [], ◌∷◌, ◌++◌, length, take, drop, Bool}
-use Rattle.std.specs.Prelude.{false, ◌&&◌, ◌==◌, nat_le, slice_index, Option, Some, None}
+use Rattle.std.specs.Prelude.{◌≡◌, ℕ, ◌+◌, ◌-◌, ◌*◌, ◌/◌, ◌%◌, ◌≤◌, List, [], ◌∷◌, ◌++◌, length}
+use Rattle.std.specs.Prelude.{take, drop, ◌&&◌, ◌==◌, nat_le, slice_index, Option, Some, None}
 use Rattle.std.specs.Prelude.{if◌then◌else◌, IsTrue, bit_xor}
 use Rattle.std.specs.List.{slice_split, filter_map, fold}
 use Rattle.std.specs.Str.Lines.{strip_carriage_return}
 use Rattle.frame.specs.Bodies.{is_body, dollar, star}
 use Rattle.frame.specs.declared.framer.TheConstants.{MOST_LINE_BYTES}
+use Rattle.frame.specs.declared.item.TheConstants.{MOST_FRAME_BYTES}
 use Rattle.frame.specs.declared.item.Damage.{Damage}
-use Rattle.frame.specs.declared.item.Damage.TheVariants.{Shape, Cut}
+use Rattle.frame.specs.declared.item.Damage.TheVariants.{Shape, TooLong, Checksum, Cut}
 use Rattle.frame.specs.declared.item.Item.{Item}
 use Rattle.frame.specs.declared.item.Item.TheVariants.{Body, Damaged}
 
 abbrev pub damage_number : Damage → ℕ
 damage_number Shape = 1
+damage_number TooLong = 2
+damage_number Checksum = 3
 damage_number Cut = 4
 
 -- the exclusive or of the bytes
@@ -46,8 +49,8 @@ hexadecimal_value digit =
     else (if nat_le lower_a digit && nat_le digit lower_f then Some (digit - lower_a + 10)
     else None))
 
--- the content is `$`, the body, `*`, and two hexadecimal digits that spell the body's checksum
-pub record IsFrame (content body : List ℕ) : Type 0 where
+-- the content is `$`, the body, `*`, and two hexadecimal digits of either case that spell the sum
+pub record HasShape (content body : List ℕ) (sum : ℕ) : Type 0 where
   pub high : ℕ
   pub low : ℕ
   pub spelled : content ≡ dollar ∷ body ++ star ∷ high ∷ low ∷ []
@@ -56,32 +59,51 @@ pub record IsFrame (content body : List ℕ) : Type 0 where
   pub low_value : ℕ
   pub high_is : hexadecimal_value high ≡ Some high_value
   pub low_is : hexadecimal_value low ≡ Some low_value
-  pub sum : 16 * high_value + low_value ≡ checksum body
+  pub sum_is : 16 * high_value + low_value ≡ sum
 
--- the two digits spell the number
-abbrev pub spells : Option ℕ → Option ℕ → ℕ → Bool
-spells (Some high) (Some low) n = 16 * high + low == n
-spells (Some high) None n = false
-spells None low n = false
+-- the content has the shape of a frame, and its digits spell the body's checksum
+abbrev pub IsFrame : List ℕ → List ℕ → Type 0
+IsFrame content body = HasShape content body (checksum body)
 
--- the body of a content, if it is a right frame
-abbrev pub frame_body : List ℕ → Option (List ℕ)
-frame_body content =
+-- the content has the shape of a frame, but its digits spell another number
+pub record HasOtherSum (content : List ℕ) : Type 0 where
+  pub body : List ℕ
+  pub sum : ℕ
+  pub shape : HasShape content body sum
+  pub other : ¬ (sum ≡ checksum body)
+
+-- the content is short enough for a frame, but has not the shape of one
+pub record HasNoShape (content : List ℕ) : Type 0 where
+  pub short : length content ≤ MOST_FRAME_BYTES
+  pub none : (body : List ℕ) (sum : ℕ) → ¬ (HasShape content body sum)
+
+-- a body with the number that two digits spell
+abbrev pub with_sum : List ℕ → Option ℕ → Option ℕ → Option (List ℕ × ℕ)
+with_sum body (Some high) (Some low) = Some (body, 16 * high + low)
+with_sum body (Some high) None = None
+with_sum body None low = None
+
+-- the body and the spelled sum of a content that has the shape of a frame
+abbrev pub shape_of : List ℕ → Option (List ℕ × ℕ)
+shape_of content =
     let count = length content in
     let body = take (count - 4) (drop 1 content) in
     if nat_le 4 count && slice_index content 0 == dollar && slice_index content (count - 3) == star
     && is_body body
-    && spells (hexadecimal_value (slice_index content (count - 2)))
-    (hexadecimal_value (slice_index content (count - 1))) (checksum body)
-    then Some body else None
+    then with_sum body (hexadecimal_value (slice_index content (count - 2)))
+    (hexadecimal_value (slice_index content (count - 1)))
+    else None
 
-abbrev pub item_or_damage : Option (List ℕ) → Item
-item_or_damage (Some body) = Body body
-item_or_damage None = Damaged Shape
+abbrev pub item_of_shape : Option (List ℕ × ℕ) → Item
+item_of_shape None = Damaged Shape
+item_of_shape (Some (body, sum)) = if sum == checksum body then Body body else Damaged Checksum
 
--- the item of a content that isn't empty
+-- the item of a content that is not empty, by the first rule that fits: it is too long, has not the
+-- shape of a frame, spells another sum, or else is a body
 abbrev pub item_of_content : List ℕ → Item
-item_of_content content = item_or_damage (frame_body content)
+item_of_content content =
+    if nat_le (length content) MOST_FRAME_BYTES then item_of_shape (shape_of content)
+    else Damaged TooLong
 
 -- the item of a line without its line feed: its content is the line without one carriage return at
 -- its end, and an empty content is no item
@@ -131,3 +153,13 @@ kept line = if nat_le (length line) MOST_LINE_BYTES then Some line else None
 -- A framer that keeps this was fed these bytes, as far as what follows can tell.
 abbrev pub StandsFor : Option (List ℕ) → List ℕ → Type 0
 StandsFor framer fed = framer ≡ kept (open_line fed)
+
+-- the hexadecimal digit of a number below 16, in upper case
+abbrev pub upper_digit : ℕ → ℕ
+upper_digit n = if nat_le n 9 then zero_digit + n else upper_a + (n - 10)
+
+-- the line that is written for a body
+abbrev pub frame_text : List ℕ → List ℕ
+frame_text body =
+    let sum = checksum body in
+    dollar ∷ body ++ star ∷ upper_digit (sum / 16) ∷ upper_digit (sum % 16) ∷ line_feed ∷ []

@@ -3,21 +3,17 @@ ghost use Rattle.std.specs.Prelude.{◌≡◌, List, ℕ, [], ◌∷◌, ◌++�
 ghost use Rattle.std.specs.Option.{option_to_list};
 ghost use Rattle.frame.specs.Frames.{StandsFor, items, items_end, item_of_line, line_feed};
 
-use crate::body::MOST_BODY_BYTES;
-use crate::item::{Damage, Item, item_of_content};
+use crate::item::{Damage, Item, MOST_FRAME_BYTES, item_of_content};
 use arrayvec::ArrayVec;
 use std::marker::Model;
-
-/// The bytes of the longest frame: `$`, a body, `*` and two digits.
-const MOST_FRAME_BYTES: usize = MOST_BODY_BYTES + 4;
 
 /// The bytes of the longest frame, with its carriage return and without its line feed.
 const MOST_LINE_BYTES: usize = MOST_FRAME_BYTES + 1;
 
 /// Takes the bytes of a stream one by one, and gives the items of its lines.
 ///
-/// Contracts see what it keeps of the bytes since the last line feed: these bytes, or none where they are more than
-/// a frame can have.
+/// Contracts see what it keeps of the bytes since the last line feed: these bytes, or none where
+/// they are more than a frame and a carriage return can have.
 #[derive(Debug, Drop)]
 pub struct Framer {
     line: ArrayVec<u8, MOST_LINE_BYTES>,
@@ -32,8 +28,8 @@ impl Model for Framer {
     ghost view = { λ framer. if framer.overlong then None else Some framer.line.items };
 }
 
-/// The item of a line without its line feed. None where nothing is left of the line without one carriage return
-/// at its end.
+/// The item of a line without its line feed. None where nothing is left of the line without one
+/// carriage return at its end.
 fn item_of_line(line: &[u8]) -> Option<Item>
     ensures { result ≡ item_of_line line.now }
 {
@@ -83,7 +79,7 @@ impl Framer {
         ensures new { self.new ≡ Some [] }
     {
         let item = if self.overlong {
-            Some(Item::Damaged(Damage::Shape))
+            Some(Item::Damaged(Damage::TooLong))
         } else {
             item_of_line(self.line.as_slice())
         };
@@ -91,7 +87,8 @@ impl Framer {
         item
     }
 
-    /// Ends the stream: `Damaged(Cut)` exactly where bytes stand after the last line feed. The framer is then as new.
+    /// Ends the stream: `Damaged(Cut)` exactly where bytes stand after the last line feed. The
+    /// framer is then as new.
     pub fn finish(&mut self) -> Option<Item>
         ensures items { (fed : List ℕ) → StandsFor self.old fed
             → items_end fed ≡ items fed ++ option_to_list result }

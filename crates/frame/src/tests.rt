@@ -19,10 +19,11 @@ fn items_of(alloc: Global, stream: &[u8]) -> Result<String, AllocError> {
 
 #[test]
 fn reads_lines(rt: HostRuntime) -> Result<(), Fail> {
-    let cases: [(&[u8], &str); 14] = [
+    let cases: [(&[u8], &str); 21] = [
         (b"$TIE,T1,CLOSE*6B\n", r#"[Body("TIE,T1,CLOSE")]"#),
         (b"$TIE,T1,CLOSE*6b\r\n", r#"[Body("TIE,T1,CLOSE")]"#),
-        (b"$TIE,T1,CLOSE*6A\n", "[Damaged(Shape)]"),
+        (b"$TIE,T1,CLOSE*6A\n", "[Damaged(Checksum)]"),
+        (b"$TIE,T1,CLOSE*7B\n", "[Damaged(Checksum)]"),
         (
             b"$TIE,T1,OPEN*29\n\n\r\n$XYZ*5B\n",
             r#"[Body("TIE,T1,OPEN"), Body("XYZ")]"#,
@@ -30,6 +31,7 @@ fn reads_lines(rt: HostRuntime) -> Result<(), Fail> {
         (b"", "[]"),
         (b"$BRD*54", "[Damaged(Cut)]"),
         (b"$BRD*54\n$", r#"[Body("BRD"), Damaged(Cut)]"#),
+        (b"\r", "[Damaged(Cut)]"),
         (b"$BRD*54\r\r\n", "[Damaged(Shape)]"),
         (b"\r\r\n", "[Damaged(Shape)]"),
         (b"BRD*54\n", "[Damaged(Shape)]"),
@@ -37,6 +39,11 @@ fn reads_lines(rt: HostRuntime) -> Result<(), Fail> {
         (b"$A$B*27\n", "[Damaged(Shape)]"),
         (b"$A*B*29\n", "[Damaged(Shape)]"),
         (b"$A\tB*0A\n", "[Damaged(Shape)]"),
+        (b"$A*4\n", "[Damaged(Shape)]"),
+        (b"$A*4g\n", "[Damaged(Shape)]"),
+        (b"$A*041\n", "[Damaged(Shape)]"),
+        (b"$A*G1\n", "[Damaged(Shape)]"),
+        (b"$A*41\n", r#"[Body("A")]"#),
     ];
     for (stream, want) in cases {
         let items = items_of(rt.alloc(), stream)?;
@@ -45,7 +52,8 @@ fn reads_lines(rt: HostRuntime) -> Result<(), Fail> {
     Ok(())
 }
 
-/// The item of a line of `$`, so many `A`, and an end. The exclusive or of an even number of `A` is 00.
+/// The item of a line of `$`, so many `A`, and an end. The exclusive or of an even number of `A` is
+/// 00.
 fn item_of_long(count: usize, end: &[u8]) -> Option<Item> {
     let mut framer = Framer::new();
     framer.feed(b'$');
@@ -63,19 +71,46 @@ fn reads_long_lines(rt: HostRuntime) -> Result<(), Fail> {
     let longest = Body::of(&[b'A'; 120]).ok_or("120 bytes are a body")?;
     assert_eq!(rt; Body::of(&[b'A'; 121]), None);
     assert_eq!(rt; item_of_long(120, b"*00\r"), Some(Item::Body(longest)));
-    let damaged: [(usize, &[u8]); 4] = [
-        (121, b"*41\r"),
-        (120, b"*00\rx"),
-        (120, b"*00\r\r"),
-        (200, b"*00\r"),
+    let damaged: [(usize, &[u8], Damage); 9] = [
+        (119, b"*00", Damage::Checksum),
+        (120, b"*41", Damage::Checksum),
+        (123, b"", Damage::Shape),
+        (123, b"\r", Damage::Shape),
+        (124, b"", Damage::TooLong),
+        (121, b"*41\r", Damage::TooLong),
+        (120, b"*00\rx", Damage::TooLong),
+        (120, b"*00\r\r", Damage::TooLong),
+        (200, b"*00\r", Damage::TooLong),
     ];
-    for (count, end) in damaged {
+    for (count, end, damage) in damaged {
         assert_eq!(rt;
             item_of_long(count, end),
-            Some(Item::Damaged(Damage::Shape)),
+            Some(Item::Damaged(damage)),
             "at {count}"
         );
     }
+    Ok(())
+}
+
+#[test]
+fn writes_frames_that_are_read(rt: HostRuntime) -> Result<(), Fail> {
+    let cases: [(&[u8], &[u8]); 4] = [
+        (b"TIE,T1,CLOSE", b"$TIE,T1,CLOSE*6B\n"),
+        (b"A", b"$A*41\n"),
+        (b"AA", b"$AA*00\n"),
+        (b"/", b"$/*2F\n"),
+    ];
+    for (bytes, want) in cases {
+        let body = Body::of(bytes).ok_or("a body")?;
+        let text = write_frame(&body);
+        assert_eq!(rt; text.as_slice(), want);
+        let read = items_of(rt.alloc(), text.as_slice())?;
+        let body_alone = format!(in rt.alloc(); "[Body({body:?})]")?;
+        assert_eq!(rt; read.as_str(), body_alone.as_str());
+    }
+    let longest = Body::of(&[b'~'; MOST_BODY_BYTES]).ok_or("a body")?;
+    assert_eq!(rt; write_frame(&longest).len(), MOST_FRAME_TEXT_BYTES);
+    written_frames_are_read();
     Ok(())
 }
 
@@ -92,7 +127,22 @@ fn begins_anew_after_the_end(rt: HostRuntime) -> Result<(), Fail> {
     assert_eq!(rt; body.as_str(), "XYZ");
     assert_eq!(rt; body.bytes(), b"XYZ".as_slice());
     assert_eq!(rt; framer.feed(b'\n'), Some(Item::Body(body)));
-    assert_eq!(rt; (Damage::Shape.number(), Damage::Cut.number()), (1, 4));
+    for _ in 0..200 {
+        assert_eq!(rt; framer.feed(b'$'), None);
+    }
+    assert_eq!(rt; framer.finish(), Some(Item::Damaged(Damage::Cut)));
+    Ok(())
+}
+
+#[test]
+fn numbers_damages(rt: HostRuntime) -> Result<(), Fail> {
+    let damages = [
+        Damage::Shape,
+        Damage::TooLong,
+        Damage::Checksum,
+        Damage::Cut,
+    ];
+    assert_eq!(rt; damages.map(|damage| damage.number()), [1, 2, 3, 4]);
     frames_are_exact();
     Ok(())
 }

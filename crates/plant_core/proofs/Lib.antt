@@ -1,4 +1,5 @@
-pub mod Fields
+pub mod Clones
+pub mod Follows
 pub mod Histories
 pub mod Kept
-pub mod Texts
+pub mod Replies

@@ -1,5 +1,7 @@
+pub mod Allocations
 pub mod Kept
 pub mod Laws
 pub mod Machine
-pub mod Places
-pub mod Telegrams
+pub mod Orders
+pub mod Sensing
+pub mod Switching

@@ -1,115 +1,139 @@
 -- The plant as a machine: which replies a call may have in a state, the state after an entry, and
 -- legal histories.
-use Rattle.std.specs.Prelude.{◌≡◌, ℕ, ◌+◌, ◌<◌, List, [], ◌∷◌, Bool, true, false, Option, Some}
-use Rattle.std.specs.Prelude.{None, if◌then◌else◌, slice_index_or, slice_set, pos}
-use Rattle.std.specs.List.{position, fold}
-use Rattle.std.specs.Str.{bytes_eq}
+use Rattle.std.specs.Prelude.{◌≡◌, ℕ, ◌+◌, List, [], ◌∷◌, ◌++◌, map, Bool, true, false, ◌&&◌}
+use Rattle.std.specs.Prelude.{IsTrue, nat_le, None, pos, if◌then◌else◌}
+use Rattle.std.specs.List.{fold}
+use Rattle.pid.specs.Control.{fresh}
+use Rattle.plant_model.specs.declared.board.Cell.TheVariants.{Pending}
+use Rattle.plant_model.specs.declared.board.Cells.{Cells}
 use Rattle.plant_model.specs.declared.plant.Parts.{Parts}
-use Rattle.plant_model.specs.declared.status.Status.{Status}
-use Rattle.plant_model.specs.Versions.{Version}
-use Rattle.plant_core.specs.Telegrams.{IsTelegram}
-use Rattle.plant_core.specs.declared.telegram.Telegram.{Telegram}
-use Rattle.plant_core.specs.declared.telegram.Telegram.TheVariants.{Thruster, Generator, Tie}
+use Rattle.telegram.specs.Telegrams.{IsTelegram}
+use Rattle.telegram.specs.declared.telegram.Telegram.{Telegram}
+use Rattle.telegram.specs.declared.telegram.Telegram.TheVariants.{Position, Wind, Setpoint}
+use Rattle.telegram.specs.declared.telegram.Telegram.TheVariants.{Thruster}
+use Rattle.telegram.specs.declared.telegram.Telegram.TheVariants.{Generator, Tie, Mode, Manual}
+use Rattle.telegram.specs.declared.telegram.Telegram.TheVariants.{Ack, Board, Bar}
+use Rattle.plant_core.specs.Orders.{after_manual, after_mode, after_set_point, manual_reply}
+use Rattle.plant_core.specs.Orders.{mode_reply, no_demand, set_point_reply}
+use Rattle.plant_core.specs.Sensing.{after_position, after_wind, position_reply, wind_reply}
+use Rattle.plant_core.specs.Switching.{after_switching, bar_switching, generator_switching}
+use Rattle.plant_core.specs.Switching.{switching_reply, thruster_switching, tie_switching}
 use Rattle.plant_core.specs.declared.call.Call.{Call}
 use Rattle.plant_core.specs.declared.call.Call.TheVariants as calls
 use Rattle.plant_core.specs.declared.call.Reply.{Reply}
 use Rattle.plant_core.specs.declared.call.Reply.TheVariants as replies
 use Rattle.plant_core.specs.declared.call.Entry.{Entry}
-use Rattle.plant_core.specs.declared.machine.State.{State}
+use Rattle.plant_core.specs.declared.state.State.{State}
 
--- ---- switching telegrams
+-- ---- telegrams
 
--- the place of the named part among the parts of its kind
-abbrev pub place_of : Parts → Telegram → Option ℕ
-place_of plant (Thruster name selected) =
-    position (λ part. bytes_eq part.name name) plant.thrusters.items
-place_of plant (Generator name running) =
-    position (λ part. bytes_eq part.name name) plant.generators.items
-place_of plant (Tie name closed) = position (λ part. bytes_eq part.name name) plant.ties.items
+-- the board: nothing was shown of any group yet
+abbrev pub cells_of : Parts → State → Cells
+cells_of plant state = record {
+  latest = state.latest.number;
+  list = record { items = map (λ group. Pending) plant.groups.items };
+}
 
--- two truth values are the same
-abbrev pub is_same : Bool → Bool → Bool
-is_same true b = b
-is_same false true = false
-is_same false false = true
+-- what a telegram is answered
+abbrev pub telegram_reply : Parts → State → Telegram → Reply
+telegram_reply plant state (Position moment x y heading) =
+    position_reply plant state moment (record { x = x; y = y; heading = heading })
+telegram_reply plant state (Wind moment speed angle) = wind_reply state moment
+telegram_reply plant state (Setpoint x y heading) = set_point_reply state
+telegram_reply plant state (Thruster name selected) =
+    switching_reply state (thruster_switching plant state.latest.status name selected)
+telegram_reply plant state (Generator name running) =
+    switching_reply state (generator_switching plant state.latest.status name running)
+telegram_reply plant state (Tie name closed) =
+    switching_reply state (tie_switching plant state.latest.status name closed)
+telegram_reply plant state (Mode is_manual) = mode_reply state is_manual
+telegram_reply plant state (Manual demand) = manual_reply state
+telegram_reply plant state (Ack number) = replies.NoSuchAlarm
+telegram_reply plant state Board = replies.Cells (cells_of plant state)
+telegram_reply plant state (Bar name piece barred) =
+    switching_reply state (bar_switching plant state.latest.status name piece barred)
 
--- whether the part at this place stands as the telegram asks
-abbrev pub stands : Status → Telegram → ℕ → Bool
-stands status (Thruster name selected) place =
-    is_same (slice_index_or status.selected place false) selected
-stands status (Generator name running) place =
-    is_same (slice_index_or status.running place false) running
-stands status (Tie name closed) place = is_same (slice_index_or status.closed place false) closed
-
--- the status with the part at this place as the telegram asks
-abbrev pub switched : Status → Telegram → ℕ → Status
-switched status (Thruster name selected) place =
-    record status { selected = slice_set status.selected place selected }
-switched status (Generator name running) place =
-    record status { running = slice_set status.running place running }
-switched status (Tie name closed) place =
-    record status { closed = slice_set status.closed place closed }
-
--- no part has the name; the part stands so already; or a new version is made
-abbrev pub reply_at : Version → Telegram → Option ℕ → Reply
-reply_at latest t None = replies.UnknownName
-reply_at latest t (Some place) =
-    if stands latest.status t place then replies.Same else replies.Version (latest.number + 1)
-
-abbrev pub telegram_reply : Parts → Version → Telegram → Reply
-telegram_reply plant latest t = reply_at latest t (place_of plant t)
-
--- the version that a switch makes: the next number, and the demand as it was
-abbrev pub version_at : Version → Telegram → Option ℕ → Version
-version_at latest t None = latest
-version_at latest t (Some place) =
-    if stands latest.status t place then latest
-    else record latest { number = latest.number + 1; status = switched latest.status t place }
-
--- the latest version after a telegram
-abbrev pub latest_after : Parts → Version → Telegram → Version
-latest_after plant latest t = version_at latest t (place_of plant t)
+-- the state after a telegram, before it is counted
+abbrev pub after_telegram : Parts → State → Telegram → State
+after_telegram plant state (Position moment x y heading) =
+    after_position plant state moment (record { x = x; y = y; heading = heading })
+after_telegram plant state (Wind moment speed angle) = after_wind plant state moment speed angle
+after_telegram plant state (Setpoint x y heading) =
+    after_set_point state (record { x = x; y = y; heading = heading })
+after_telegram plant state (Thruster name selected) =
+    after_switching state (thruster_switching plant state.latest.status name selected)
+after_telegram plant state (Generator name running) =
+    after_switching state (generator_switching plant state.latest.status name running)
+after_telegram plant state (Tie name closed) =
+    after_switching state (tie_switching plant state.latest.status name closed)
+after_telegram plant state (Mode is_manual) = after_mode state is_manual
+after_telegram plant state (Manual demand) = after_manual state demand
+after_telegram plant state (Ack number) = state
+after_telegram plant state Board = state
+after_telegram plant state (Bar name piece barred) =
+    after_switching state (bar_switching plant state.latest.status name piece barred)
 
 -- ---- replies and states
 
+-- whether a call counts against the limit: telegrams and notes do
+abbrev pub is_event : Call → Bool
+is_event (calls.Telegram t) = true
+is_event (calls.Note n) = true
+is_event calls.Close = false
+
 -- what a call may be answered where nothing is closed and there is room for it
 abbrev pub IsReply : Parts → State → Call → Reply → Type 0
-IsReply plant state (calls.Telegram t) reply = reply ≡ telegram_reply plant state.latest t
+IsReply plant state (calls.Telegram t) reply = reply ≡ telegram_reply plant state t
 IsReply plant state (calls.Note n) reply = reply ≡ replies.Noted
 IsReply plant state calls.Close reply = reply ≡ replies.Taken
 
--- fewer telegrams and notes than the limit were answered, where the call is one of them
-abbrev pub HasRoom : ℕ → State → Call → Type 0
-HasRoom limit state (calls.Telegram t) = state.events < limit
-HasRoom limit state (calls.Note n) = state.events < limit
-HasRoom limit state calls.Close = Unit {0}
+-- as many telegrams and notes as the limit were answered, and the call is one of them
+abbrev pub is_full : ℕ → State → Call → Bool
+is_full limit state call = is_event call && nat_le limit state.events
 
--- the reply is allowed in the state: no session was ended, there is room, and it is the call's
--- reply
-pub record IsAllowed (plant : Parts) (limit : ℕ) (state : State) (call : Call)
-    (reply : Reply) : Type 0 where
-  pub open_ : state.is_closed ≡ false
-  pub room : HasRoom limit state call
-  pub reply_is : IsReply plant state call reply
+-- whether a session was ended is judged first, then whether there is room, and then the call
+abbrev pub IsAllowedWhere : Bool → Bool → Parts → State → Call → Reply → Type 0
+IsAllowedWhere true full plant state call reply = reply ≡ replies.Closed
+IsAllowedWhere false true plant state call reply = reply ≡ replies.JournalFull
+IsAllowedWhere false false plant state call reply = IsReply plant state call reply
 
--- the state after a call with this reply
-abbrev pub next_state : Parts → State → Call → Reply → State
-next_state plant state (calls.Telegram t) reply =
-    record state { latest = latest_after plant state.latest t; events = state.events + 1 }
-next_state plant state (calls.Note n) reply = record state { events = state.events + 1 }
-next_state plant state calls.Close reply = record state { is_closed = true }
+-- the reply is allowed in the state
+abbrev pub IsAllowed : Parts → ℕ → State → Call → Reply → Type 0
+IsAllowed plant limit state call reply =
+    IsAllowedWhere state.is_closed (is_full limit state call) plant state call reply
+
+-- whether a call with this reply was answered, and so has an entry
+abbrev pub is_answer : Reply → Bool
+is_answer replies.JournalFull = false
+is_answer replies.Closed = false
+is_answer _ = true
+
+-- one telegram or note more was answered
+abbrev pub counted : State → State
+counted state = record state { events = state.events + 1 }
+
+-- the state after an answered call
+abbrev pub after_call : Parts → State → Call → State
+after_call plant state (calls.Telegram t) = counted (after_telegram plant state t)
+after_call plant state (calls.Note n) = counted state
+after_call plant state calls.Close = record state { is_closed = true }
 
 abbrev pub next : Parts → State → Entry → State
-next plant state entry = next_state plant state entry.call entry.reply
+next plant state entry = after_call plant state entry.call
 
--- the opening status as version 0, with nothing asked of the thrusters
+-- the opening status as version 0, with nothing asked of the thrusters, in automatic mode, with the
+-- origin as set point
 abbrev pub opening : Parts → State
 opening plant = record {
-  latest = record {
-    number = 0;
-    status = plant.opening;
-    demand = record { x = pos 0; y = pos 0; n = pos 0 };
-  };
+  latest = record { number = 0; status = plant.opening; demand = no_demand };
+  demand = no_demand;
+  is_manual = false;
+  manual = no_demand;
+  set_point = record { x = pos 0; y = pos 0; heading = 0 };
+  controller = fresh plant.gains;
+  last_position = None;
+  last_wind = None;
+  wind = record { x = pos 0; y = pos 0; n = pos 0 };
   events = 0;
   is_closed = false;
 }
@@ -120,18 +144,24 @@ state_after plant history = fold (next plant) (opening plant) history
 
 -- ---- histories
 
--- a telegram names by names
+-- a telegram is within its ranges
 abbrev pub IsCall : Call → Type 0
 IsCall (calls.Telegram t) = IsTelegram t
 IsCall (calls.Note n) = Unit {0}
 IsCall calls.Close = Unit {0}
 
--- from this state on, each reply is allowed in the state after the entries before it
+-- a call may stand as the next entry: it is within its ranges, its reply is allowed in the state,
+-- and it was answered
+pub record IsEntry (plant : Parts) (limit : ℕ) (state : State) (entry : Entry) : Type 0 where
+  pub call : IsCall entry.call
+  pub allowed : IsAllowed plant limit state entry.call entry.reply
+  pub answered : IsTrue (is_answer entry.reply)
+
+-- from this state on, each entry may stand after the entries before it
 abbrev pub IsLegalFrom : Parts → ℕ → State → List Entry → Type 0
 IsLegalFrom plant limit state [] = Unit {0}
 IsLegalFrom plant limit state (entry ∷ entries) =
-    IsCall entry.call × IsAllowed plant limit state entry.call entry.reply
-    × IsLegalFrom plant limit (next plant state entry) entries
+    IsEntry plant limit state entry × IsLegalFrom plant limit (next plant state entry) entries
 
 -- a history of the plant, with at most as many telegrams and notes as the limit says
 abbrev pub IsLegal : Parts → ℕ → List Entry → Type 0
@@ -146,3 +176,8 @@ pub record CoreView : Type 0 where
 -- the state after a core's history
 abbrev pub state_of : CoreView → State
 state_of core = state_after core.plant core.history
+
+-- the core with a call that was answered as its last entry; one that wasn't changes nothing
+abbrev pub after_reply : CoreView → Entry → CoreView
+after_reply core entry =
+    if is_answer entry.reply then record core { history = core.history ++ entry ∷ [] } else core

@@ -2,10 +2,17 @@
 //! becomes the history's next entry.
 #![tactic(auto)]
 
+mod allocation;
+mod answer;
 mod call;
 mod machine;
+mod orders;
+mod sensing;
+mod state;
 mod switch;
-pub mod telegram;
 
+pub use allocation::{Allocate, Allocation};
 pub use call::{Call, Entry, Note, Reply};
-pub use machine::{Core, NoMemory, State, legal_by_steps};
+pub use machine::{Core, NoMemory, legal_by_steps};
+pub use plant_model::board::{Cell, Cells};
+pub use state::State;

@@ -1,117 +1,192 @@
-//! The answers to calls, and the state after them.
+//! Switching the parts of a plant, which the operators name.
 ghost use Rattle.std.specs.Prelude.{◌≡◌, ◌+◌, ◌<◌, ◌^◌, IfSome};
-ghost use Rattle.plant_core.specs.Telegrams.{IsTelegram};
-ghost use Rattle.plant_core.specs.Machine.{IsCall, IsReply, next_state, place_of, stands, switched};
-ghost use Rattle.plant_core.specs.Machine.{latest_after, telegram_reply};
-ghost use Rattle.plant_core.specs.Places.{most_parts};
+ghost use Rattle.plant_model.specs.Versions.{IsDemand};
+ghost use Rattle.plant_core.specs.Switching.{after_switching, bar_switching, generator_place};
+ghost use Rattle.plant_core.specs.Switching.{generator_switching, is_barred, pieces_of, switched};
+ghost use Rattle.plant_core.specs.Switching.{switching_reply, thruster_place, thruster_switching};
+ghost use Rattle.plant_core.specs.Switching.{tie_place, tie_switching};
 
-use crate::call::{Call, Reply};
-use crate::machine::State;
-use crate::telegram::Telegram;
+use crate::call::Reply;
+use crate::state::State;
+use plant_model::limits::{MOST_GENERATORS, MOST_PIECES, MOST_THRUSTERS, MOST_TIES};
+use plant_model::name::Name;
 use plant_model::plant::Plant;
 use plant_model::status::{Status, Version};
 
-/// The place of the part that the telegram names, among the parts of its kind.
-fn place_of(plant: &Plant, telegram: &Telegram) -> Option<usize>
-    ensures place { result ≡ place_of plant.now telegram.now }
-    ensures named { IsTelegram telegram.now }
-    ensures fits { IfSome result (λ place. place < most_parts telegram.now) }
-{
-    match telegram {
-        Telegram::Thruster { name, .. } => {
-            let wanted = name.bytes();
-            let thrusters = plant.thrusters().as_slice();
-            thrusters
-                .iter()
-                .position(|part| part.name.bytes() == wanted)
-        }
-        Telegram::Generator { name, .. } => {
-            let wanted = name.bytes();
-            let generators = plant.generators().as_slice();
-            generators
-                .iter()
-                .position(|part| part.name.bytes() == wanted)
-        }
-        Telegram::Tie { name, .. } => {
-            let wanted = name.bytes();
-            let ties = plant.ties().as_slice();
-            ties.iter().position(|part| part.name.bytes() == wanted)
-        }
-    }
+/// How a part would be switched.
+#[derive(Clone, Copy, Debug, PartialEq, Eq)]
+pub enum Switching {
+    /// No part of that kind has the name.
+    Unknown,
+    /// The thruster has no such piece.
+    NoPiece,
+    /// The part stands so already.
+    Same,
+    /// The status with the part so.
+    To(Status),
 }
 
-/// Whether the part at this place stands as the telegram asks.
-fn stands(status: &Status, telegram: &Telegram, place: usize) -> bool
-    requires { place < most_parts telegram.now }
-    ensures { result ≡ stands status.now telegram.now place }
+/// The place of the thruster of that name.
+fn thruster_place(plant: &Plant, name: &Name) -> Option<usize>
+    ensures place { result ≡ thruster_place plant.now name.now }
+    ensures fits { IfSome result (λ place. place < MOST_THRUSTERS) }
 {
-    match telegram {
-        Telegram::Thruster { selected, .. } => status.selected[place] == *selected,
-        Telegram::Generator { running, .. } => status.running[place] == *running,
-        Telegram::Tie { closed, .. } => status.closed[place] == *closed,
-    }
+    let wanted = name.bytes();
+    let thrusters = plant.thrusters().as_slice();
+    thrusters
+        .iter()
+        .position(|part| part.name.bytes() == wanted)
 }
 
-/// The status with the part at this place as the telegram asks.
-fn switched(status: &Status, telegram: &Telegram, place: usize) -> Status
-    requires { place < most_parts telegram.now }
-    ensures { result ≡ switched status.now telegram.now place }
+/// The place of the generator of that name.
+fn generator_place(plant: &Plant, name: &Name) -> Option<usize>
+    ensures place { result ≡ generator_place plant.now name.now }
+    ensures fits { IfSome result (λ place. place < MOST_GENERATORS) }
 {
+    let wanted = name.bytes();
+    let generators = plant.generators().as_slice();
+    generators
+        .iter()
+        .position(|part| part.name.bytes() == wanted)
+}
+
+/// The place of the bus tie of that name.
+fn tie_place(plant: &Plant, name: &Name) -> Option<usize>
+    ensures place { result ≡ tie_place plant.now name.now }
+    ensures fits { IfSome result (λ place. place < MOST_TIES) }
+{
+    let wanted = name.bytes();
+    let ties = plant.ties().as_slice();
+    ties.iter().position(|part| part.name.bytes() == wanted)
+}
+
+/// The switches with the one at this place so. None where it stands so already.
+fn switched<const N: usize>(switches: &[bool; N], place: usize, value: bool) -> Option<[bool; N]>
+    requires { place < N }
+    ensures { result ≡ switched switches.now place value }
+{
+    if switches[place] == value {
+        return None;
+    }
+    let mut switches = *switches;
+    switches[place] = value;
+    Some(switches)
+}
+
+/// How the thruster of that name would be selected or taken out.
+pub(crate) fn thruster_switching(
+    plant: &Plant,
+    status: &Status,
+    name: &Name,
+    selected: bool,
+) -> Switching
+    ensures { result ≡ thruster_switching plant.now status.now name.now selected }
+{
+    let Some(place) = thruster_place(plant, name) else {
+        return Switching::Unknown;
+    };
+    let Some(selected) = switched(&status.selected, place, selected) else {
+        return Switching::Same;
+    };
+    Switching::To(Status {
+        selected,
+        ..*status
+    })
+}
+
+/// How the generator of that name would be run or stopped.
+pub(crate) fn generator_switching(
+    plant: &Plant,
+    status: &Status,
+    name: &Name,
+    running: bool,
+) -> Switching
+    ensures { result ≡ generator_switching plant.now status.now name.now running }
+{
+    let Some(place) = generator_place(plant, name) else {
+        return Switching::Unknown;
+    };
+    let Some(running) = switched(&status.running, place, running) else {
+        return Switching::Same;
+    };
+    Switching::To(Status { running, ..*status })
+}
+
+/// How the bus tie of that name would be closed or opened.
+pub(crate) fn tie_switching(plant: &Plant, status: &Status, name: &Name, closed: bool) -> Switching
+    ensures { result ≡ tie_switching plant.now status.now name.now closed }
+{
+    let Some(place) = tie_place(plant, name) else {
+        return Switching::Unknown;
+    };
+    let Some(closed) = switched(&status.closed, place, closed) else {
+        return Switching::Same;
+    };
+    Switching::To(Status { closed, ..*status })
+}
+
+/// How many pieces the thruster at this place has.
+fn pieces_of(plant: &Plant, place: usize) -> usize
+    ensures { result ≡ pieces_of plant.now place }
+{
+    let thrusters = plant.thrusters().as_slice();
+    thrusters
+        .get(place)
+        .map_or(0, |thruster| thruster.pieces.list.len())
+}
+
+/// Whether the mask bars the piece of this number.
+fn is_barred(mask: u16, piece: u32) -> bool
+    requires { piece < MOST_PIECES }
+    ensures { result ≡ is_barred mask piece }
+{
+    mask >> piece & 1 == 1
+}
+
+/// How the piece of the thruster of that name would be barred or freed.
+pub(crate) fn bar_switching(
+    plant: &Plant,
+    status: &Status,
+    name: &Name,
+    piece: u32,
+    barred: bool,
+) -> Switching
+    requires { piece < MOST_PIECES }
+    ensures { result ≡ bar_switching plant.now status.now name.now piece barred }
+{
+    let Some(place) = thruster_place(plant, name) else {
+        return Switching::Unknown;
+    };
+    if pieces_of(plant, place) <= piece as usize {
+        return Switching::NoPiece;
+    }
+    if is_barred(status.barred[place], piece) == barred {
+        return Switching::Same;
+    }
     let mut status = *status;
-    match telegram {
-        Telegram::Thruster { selected, .. } => status.selected[place] = *selected,
-        Telegram::Generator { running, .. } => status.running[place] = *running,
-        Telegram::Tie { closed, .. } => status.closed[place] = *closed,
-    }
-    status
+    status.barred[place] ^= 1 << piece;
+    Switching::To(status)
 }
 
-/// The answer to a telegram, and the latest version after it.
-fn answer_telegram(plant: &Plant, latest: &Version, telegram: &Telegram) -> (Reply, Version)
-    requires { latest.now.number + 1 < 2 ^ 32 }
-    ensures named { IsTelegram telegram.now }
-    ensures reply { result.0 ≡ telegram_reply plant.now latest.now telegram.now }
-    ensures latest { result.1 ≡ latest_after plant.now latest.now telegram.now }
-{
-    let Some(place) = place_of(plant, telegram) else {
-        return (Reply::UnknownName, *latest);
-    };
-    if stands(&latest.status, telegram, place) {
-        return (Reply::Same, *latest);
-    }
-    let number = latest.number + 1;
-    let version = Version {
-        number,
-        status: switched(&latest.status, telegram, place),
-        demand: latest.demand,
-    };
-    (Reply::Version(number), version)
-}
-
-/// The answer to a call, and the state after it.
-pub(crate) fn answer(plant: &Plant, state: &State, call: &Call) -> (Reply, State)
+/// The reply where a part would be switched so, and the state after it.
+pub(crate) fn switch(state: &State, switching: Switching) -> (Reply, State)
     requires number { state.now.latest.number + 1 < 2 ^ 32 }
-    requires events { state.now.events + 1 < 2 ^ 32 }
-    ensures asked { IsCall call.now }
-    ensures reply { IsReply plant.now state.now call.now result.0 }
-    ensures state { result.1 ≡ next_state plant.now state.now call.now result.0 }
+    requires demand { IsDemand state.now.demand }
+    ensures reply { result.0 ≡ switching_reply state.now switching }
+    ensures state { result.1 ≡ after_switching state.now switching }
 {
-    let mut next = *state;
-    let reply = match call {
-        Call::Telegram(telegram) => {
-            let (reply, latest) = answer_telegram(plant, &state.latest, telegram);
-            next.latest = latest;
-            next.events += 1;
-            reply
+    match switching {
+        Switching::Unknown => (Reply::UnknownName, *state),
+        Switching::NoPiece => (Reply::NoPiece, *state),
+        Switching::Same => (Reply::Same, *state),
+        Switching::To(status) => {
+            let number = state.latest.number + 1;
+            let latest = Version {
+                number,
+                status,
+                demand: state.demand,
+            };
+            (Reply::Version(number), State { latest, ..*state })
         }
-        Call::Note(_) => {
-            next.events += 1;
-            Reply::Noted
-        }
-        Call::Close => {
-            next.is_closed = true;
-            Reply::Taken
-        }
-    };
-    (reply, next)
+    }
 }

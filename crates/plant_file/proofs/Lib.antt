@@ -1,10 +1,27 @@
 pub mod ArrayLemmas
+pub mod BuiltLemmas
 pub mod ChainLemmas
+pub mod Connected
+pub mod Controls
 pub mod DistinctLemmas
 pub mod JudgedLemmas
 pub mod KeyLemmas
+pub mod KindLemmas
+pub mod MaskBounds
+pub mod MaskLemmas
 pub mod NameLemmas
+pub mod NamedApart
+pub mod NumberLemmas
+pub mod PlantLemmas
+pub mod RangeLemmas
+pub mod RightLemmas
+pub mod RightThrusters
+pub mod SmallLemmas
+pub mod StatusRight
 pub mod TextLemmas
 pub mod ThresholdLemmas
+pub mod ThrusterLemmas
+pub mod ThrustersRight
 pub mod Values
+pub mod Whole
 mod WorkedDocuments

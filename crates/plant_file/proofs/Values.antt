@@ -1,6 +1,7 @@
 -- Values of a document, as the code sees them.
 use Rattle.std.proofs.Common.{◌≡◌, List, [], ◌∷◌, Some, refl, ap}
-use Rattle.toml.specs.Data.{Data, string, integer, float, boolean, datetime, array, table, Items, as_array}
+use Rattle.toml.specs.Data.{Data, string, integer, float, boolean, datetime, array, table, Items}
+use Rattle.toml.specs.Data.{as_array}
 use Rattle.toml.specs.View.{items_of}
 use Rattle.plant_file.specs.Documents.{elements, list_in}
 

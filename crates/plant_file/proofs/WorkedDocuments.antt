@@ -1,6 +1,8 @@
 -- Worked documents: the demo's, and what one change each makes of it.
-use Rattle.std.proofs.Common.{◌≡◌, ℤ, List, [], ◌∷◌, ◌++◌, map, true, false, pos, negsuc, Ok, Err, refl, codes}
-use Rattle.toml.specs.Data.{Data, string, integer, boolean, array, table, Items, no_items, item, Members, no_members, member}
+use Rattle.std.proofs.Common.{◌≡◌, ℤ, List, [], ◌∷◌, ◌++◌, map, true, false, pos, negsuc, Ok, Err}
+use Rattle.std.proofs.Common.{refl, codes}
+use Rattle.toml.specs.Data.{Data, string, integer, boolean, array, table, Items, no_items, item}
+use Rattle.toml.specs.Data.{Members, no_members, member}
 use Rattle.plant_model.specs.Demo.{demo_parts}
 use Rattle.plant_file.specs.Described.{parts_in}
 use Rattle.plant_file.specs.Faults.{judged, path_to}
@@ -8,7 +10,11 @@ use Rattle.plant_file.specs.PlantText.{key_faults_of, other_faults_of}
 use Rattle.plant_file.specs.declared.fault.Key.TheVariants as key
 use Rattle.plant_file.specs.declared.fault.Part.TheVariants as part
 use Rattle.plant_file.specs.declared.fault.PlantFault.{PlantFault}
-use Rattle.plant_file.specs.declared.fault.PlantFault.TheVariants.{MissingKey, WrongKind, OutOfLimit, NameTwice, UnknownName, RingNotConvex, SectorBad, TooManyChoices, UnknownKey, PieceBad}
+use Rattle.plant_file.specs.declared.fault.PlantFault.TheVariants.{MissingKey, WrongKind}
+use Rattle.plant_file.specs.declared.fault.PlantFault.TheVariants.{OutOfLimit, NameTwice}
+use Rattle.plant_file.specs.declared.fault.PlantFault.TheVariants.{UnknownName, RingNotConvex}
+use Rattle.plant_file.specs.declared.fault.PlantFault.TheVariants.{SectorBad, TooManyChoices}
+use Rattle.plant_file.specs.declared.fault.PlantFault.TheVariants.{UnknownKey, PieceBad}
 
 abbrev items_of : List Data → Items
 items_of [] = no_items

@@ -5,4 +5,5 @@ use Rattle.plant_file.specs.declared.fault.PlantFault.TheVariants.{NoMemory}
 
 -- the result, seen by view, is the answer, or memory ran out
 abbrev pub IsAnswer : {X Y : Type 0} → (X → Y) → Result X PlantFault → Result Y PlantFault → Type 0
-IsAnswer view result answer = MatchResult result (λ x. answer ≡ Ok (view x)) (λ e. (e ≡ NoMemory) ⊎ (answer ≡ Err e))
+IsAnswer view result answer =
+    MatchResult result (λ x. answer ≡ Ok (view x)) (λ e. (e ≡ NoMemory) ⊎ (answer ≡ Err e))

@@ -1,10 +1,13 @@
 -- The plant that a document without faults describes.
-use Rattle.std.specs.Prelude.{ℕ, ◌+◌, ◌-◌, ◌^◌, pos, List, [], ◌++◌, length, map, replicate, Bool, false, nat_lt, if◌then◌else◌, Option, option_map, option_and_then, unwrap_or, slice_get, sum}
+use Rattle.std.specs.Prelude.{ℕ, ◌+◌, ◌-◌, ◌^◌, pos, List, [], ◌++◌, length, map, replicate, Bool}
+use Rattle.std.specs.Prelude.{false, nat_lt, if◌then◌else◌, Option, option_map, option_and_then}
+use Rattle.std.specs.Prelude.{unwrap_or, slice_get, sum}
 use Rattle.std.specs.List.{flat_map, position_or_len}
 use Rattle.std.specs.Str.{bytes_eq}
 use Rattle.plant_model.specs.Rings.{cut}
 use Rattle.plant_model.specs.declared.controller.Gains.{Gains}
-use Rattle.plant_model.specs.declared.limits.TheConstants.{MOST_GENERATORS, MOST_THRUSTERS, MOST_TIES}
+use Rattle.plant_model.specs.declared.limits.TheConstants.{MOST_GENERATORS, MOST_THRUSTERS}
+use Rattle.plant_model.specs.declared.limits.TheConstants.{MOST_TIES}
 use Rattle.plant_model.specs.declared.parts.Generator.{Generator}
 use Rattle.plant_model.specs.declared.parts.Group.{Group}
 use Rattle.plant_model.specs.declared.parts.Member.{Member}
@@ -69,7 +72,9 @@ names_of_parts parts doc = flat_map (λ part. names_of part doc) parts
 
 -- the names of all sections, ties, generators and thrusters
 abbrev pub all_names : Members → List (List ℕ)
-all_names doc = names_of part.Section doc ++ names_of part.Tie doc ++ names_of part.Generator doc ++ names_of part.Thruster doc
+all_names doc =
+    names_of part.Section doc ++ names_of part.Tie doc ++ names_of part.Generator doc
+    ++ names_of part.Thruster doc
 
 -- where a name stands in a list of names
 abbrev pub number_of : List ℕ → List (List ℕ) → ℕ
@@ -83,21 +88,27 @@ abbrev pub member_at : ℕ → ℕ → ℕ → ℕ → Member
 member_at sections ties generators place =
     if nat_lt place sections then member.Section place
     else (if nat_lt place (sections + ties) then member.Tie (place - sections)
-    else (if nat_lt place (sections + ties + generators) then member.Generator (place - (sections + ties))
+    else (if nat_lt place (sections + ties + generators)
+    then member.Generator (place - (sections + ties))
     else member.Thruster (place - (sections + ties + generators))))
 
 abbrev pub member_named : Members → List ℕ → Member
 member_named doc name =
-    member_at (length (names_of part.Section doc)) (length (names_of part.Tie doc)) (length (names_of part.Generator doc)) (number_of name (all_names doc))
+    member_at (length (names_of part.Section doc)) (length (names_of part.Tie doc))
+    (length (names_of part.Generator doc)) (number_of name (all_names doc))
 
 abbrev pub end_at : ℕ → Members → Data → ℕ
-end_at place doc d = unwrap_or (option_map (λ text. number_of text (names_of part.Section doc)) (slice_get (texts_at key.Ends d) place)) 0
+end_at place doc d =
+    unwrap_or
+    (option_map (λ text. number_of text (names_of part.Section doc))
+    (slice_get (texts_at key.Ends d) place)) 0
 
 abbrev pub tie_in : Members → Data → Tie
 tie_in doc d = record { name = text_at key.Name d; first = end_at 0 doc d; second = end_at 1 doc d }
 
 abbrev pub generator_in : Members → Data → Generator
-generator_in doc d = record { name = text_at key.Name d; section = section_of doc d; power = natural_at key.Power d }
+generator_in doc d =
+    record { name = text_at key.Name d; section = section_of doc d; power = natural_at key.Power d }
 
 abbrev pub piece_of : List Point → Piece
 piece_of points = record { points = record { items = points } }
@@ -106,10 +117,11 @@ piece_of points = record { points = record { items = points } }
 abbrev pub pieces_in : Data → List (List Point)
 pieces_in d = cut (points_at key.Ring d) (sectors_at key.Forbid d)
 
-abbrev pub thruster_in : Members → Data → Thruster
-thruster_in doc d = record {
-  name = text_at key.Name d;
-  section = section_of doc d;
+-- a thruster with its name and the section that feeds it
+abbrev pub thruster_from : List ℕ → ℕ → Data → Thruster
+thruster_from name section d = record {
+  name = name;
+  section = section;
   lever = unwrap_or (option_map point_in (held key.At d)) (record { x = pos 0; y = pos 0 });
   rated = natural_at key.Rated d;
   thresholds = naturals_at key.Thresholds d;
@@ -119,8 +131,15 @@ thruster_in doc d = record {
   frozen = option_map point_in (held key.Frozen d);
 }
 
+abbrev pub thruster_in : Members → Data → Thruster
+thruster_in doc d = thruster_from (text_at key.Name d) (section_of doc d) d
+
 abbrev pub group_in : Members → Data → Group
-group_in doc d = record { name = text_at key.Name d; members = record { items = map (member_named doc) (texts_at key.Members d) } }
+group_in doc d =
+    record {
+      name = text_at key.Name d;
+      members = record { items = map (member_named doc) (texts_at key.Members d) };
+    }
 
 -- a list made as long as n by elements at its end
 abbrev pub filled : {A : Type 0} → ℕ → A → List A → List A
@@ -133,18 +152,30 @@ mask_of places = sum (map (λ place. 2 ^ place) places)
 -- how the parts stand when a session opens
 abbrev pub opening_in : Members → Status
 opening_in doc = record {
-  selected = filled MOST_THRUSTERS false (map (truth_at key.Selected) (elements_at part.Thruster doc));
-  running = filled MOST_GENERATORS false (map (truth_at key.Running) (elements_at part.Generator doc));
+  selected =
+      filled MOST_THRUSTERS false (map (truth_at key.Selected) (elements_at part.Thruster doc));
+  running =
+      filled MOST_GENERATORS false (map (truth_at key.Running) (elements_at part.Generator doc));
   closed = filled MOST_TIES false (map (truth_at key.Closed) (elements_at part.Tie doc));
-  barred = filled MOST_THRUSTERS 0 (map (λ d. mask_of (naturals_at key.Barred d)) (elements_at part.Thruster doc));
+  barred = filled MOST_THRUSTERS 0
+      (map (λ d. mask_of (naturals_at key.Barred d)) (elements_at part.Thruster doc));
 }
 
 abbrev pub gains_in : Data → Gains
-gains_in d = record { kp = natural_at key.Kp d; ki = natural_at key.Ki d; kd = natural_at key.Kd d; limit = natural_at key.Limit d }
+gains_in d =
+    record {
+      kp = natural_at key.Kp d;
+      ki = natural_at key.Ki d;
+      kd = natural_at key.Kd d;
+      limit = natural_at key.Limit d;
+    }
 
 -- one of the controller's three tables
 abbrev pub axis_in : Members → ℕ → Data
-axis_in doc index = unwrap_or (option_and_then (λ d. option_and_then (get_member (axis_text index)) (as_table d)) (get_member (part_text part.Controller) doc)) (table no_members)
+axis_in doc index =
+    unwrap_or
+    (option_and_then (λ d. option_and_then (get_member (axis_text index)) (as_table d))
+    (get_member (part_text part.Controller) doc)) (table no_members)
 
 abbrev pub parts_in : Members → Parts
 parts_in doc =

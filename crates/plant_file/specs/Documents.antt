@@ -1,6 +1,8 @@
 -- What stands in a document, with something in its place where it doesn't.
-use Rattle.std.specs.Prelude.{ℕ, ℤ, pos, negsuc, List, [], ◌∷◌, Bool, false, is_some, unwrap_or, option_map, slice_get}
-use Rattle.toml.specs.Data.{Data, array, Items, no_items, item, Members, no_members, member, as_str, as_integer, as_bool, as_table}
+use Rattle.std.specs.Prelude.{ℕ, ℤ, pos, negsuc, List, [], ◌∷◌, Bool, false, is_some, unwrap_or}
+use Rattle.std.specs.Prelude.{option_map, slice_get, nat_lt, ◌^◌}
+use Rattle.toml.specs.Data.{Data, array, Items, no_items, item, Members, no_members, member, as_str}
+use Rattle.toml.specs.Data.{as_integer, as_bool, as_table}
 
 -- the elements of a list
 abbrev pub elements : Items → List Data
@@ -49,3 +51,7 @@ number_at place d = unwrap_or (option_map number_in (slice_get (list_in d) place
 abbrev pub natural : ℤ → ℕ
 natural (pos n) = n
 natural (negsuc n) = 0
+
+-- a number that fits 32 bits
+abbrev pub is_small : Data → Bool
+is_small d = nat_lt (natural (number_in d)) (2 ^ 32)

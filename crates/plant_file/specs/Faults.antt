@@ -1,5 +1,6 @@
 -- The faults of a document, in the order in which they are judged.
-use Rattle.std.specs.Prelude.{ℕ, List, [], ◌∷◌, ◌++◌, length, Bool, false, Option, Some, None, Result, Ok, Err, nat_lt, nat_le, if◌then◌else◌, pos, int_le, ◌<◌, ◌^◌}
+use Rattle.std.specs.Prelude.{ℕ, List, [], ◌∷◌, ◌++◌, length, Bool, false, Option, Some, None}
+use Rattle.std.specs.Prelude.{Result, Ok, Err, nat_lt, nat_le, if◌then◌else◌, pos, int_le, ◌<◌, ◌^◌}
 use Rattle.std.specs.List.{flat_map, list_all, list_any, enumerate_from}
 use Rattle.std.specs.Str.{bytes_eq}
 use Rattle.toml.specs.Data.{Data, array, Members, as_table, get_member}
@@ -13,7 +14,8 @@ use Rattle.plant_file.specs.declared.fault.Key.{Key}
 use Rattle.plant_file.specs.declared.fault.Key.TheVariants.{Whole, Format as FormatKey}
 use Rattle.plant_file.specs.declared.fault.Path.{Path}
 use Rattle.plant_file.specs.declared.fault.PlantFault.{PlantFault}
-use Rattle.plant_file.specs.declared.fault.PlantFault.TheVariants.{MissingKey, WrongKind, OutOfLimit, UnknownKey}
+use Rattle.plant_file.specs.declared.fault.PlantFault.TheVariants.{MissingKey, WrongKind}
+use Rattle.plant_file.specs.declared.fault.PlantFault.TheVariants.{OutOfLimit, UnknownKey}
 use Rattle.plant_file.specs.declared.key.Format.{Format}
 use Rattle.plant_file.specs.declared.key.Format.TheVariants.{One, Two}
 use Rattle.plant_file.specs.declared.key.Row.{Row}
@@ -39,7 +41,8 @@ format_of doc = format_in (get_member (key_text FormatKey) doc)
 -- a value that a key holds: its kind, and then its limits
 abbrev pub value_faults : Path → Kind → Data → List PlantFault
 value_faults path kind d =
-    if has_kind kind d then (if keeps_limit kind d then [] else OutOfLimit path ∷ []) else WrongKind path ∷ []
+    if has_kind kind d then (if keeps_limit kind d then [] else OutOfLimit path ∷ [])
+    else WrongKind path ∷ []
 
 -- what a key of a table holds
 abbrev pub key_faults : Path → Row → Option Data → List PlantFault
@@ -47,14 +50,16 @@ key_faults path row None = if row.needed then MissingKey path ∷ [] else []
 key_faults path row (Some d) = value_faults path row.kind d
 
 abbrev pub row_faults : Part → ℕ → Members → Row → List PlantFault
-row_faults part index ms row = key_faults (path_to part index row.key) row (get_member (key_text row.key) ms)
+row_faults part index ms row =
+    key_faults (path_to part index row.key) row (get_member (key_text row.key) ms)
 
 -- each key of a table, in the order of the table of keys
 abbrev pub table_faults : Part → ℕ → List Row → Members → List PlantFault
 table_faults part index rows ms = flat_map (row_faults part index ms) rows
 
 -- the faults of a table, or other ones where there is none
-abbrev pub table_or : List PlantFault → (Members → List PlantFault) → Option Members → List PlantFault
+abbrev pub table_or : List PlantFault → (Members → List PlantFault) → Option Members
+    → List PlantFault
 table_or others faults None = others
 table_or others faults (Some ms) = faults ms
 
@@ -70,11 +75,15 @@ in_element faults d = table_or [] faults (as_table d)
 -- `surge`, `sway` or `yaw` of the controller
 abbrev pub axis_faults : Format → Members → ℕ → List PlantFault
 axis_faults format controller index =
-    in_table (path_to Controller index Whole) (table_faults Controller index (rows format Controller)) (get_member (axis_text index) controller)
+    in_table (path_to Controller index Whole)
+    (table_faults Controller index (rows format Controller))
+    (get_member (axis_text index) controller)
 
 abbrev pub controller_faults : Format → Members → List PlantFault
 controller_faults format doc =
-    in_table (path_to Controller 0 Whole) (λ controller. flat_map (axis_faults format controller) axes) (get_member (part_text Controller) doc)
+    in_table (path_to Controller 0 Whole)
+    (λ controller. flat_map (axis_faults format controller) axes)
+    (get_member (part_text Controller) doc)
 
 -- how many tables a part has: too few, or the first place past the limit
 abbrev pub count_faults : Part → Count → ℕ → List PlantFault
@@ -88,9 +97,11 @@ is_array_of_tables _ = false
 
 -- an array of tables itself. One that may be empty may be missing
 abbrev pub array_faults : Part → Count → Option Data → List PlantFault
-array_faults part count None = if nat_le 1 count.fewest then MissingKey (path_to part 0 Whole) ∷ [] else []
+array_faults part count None =
+    if nat_le 1 count.fewest then MissingKey (path_to part 0 Whole) ∷ [] else []
 array_faults part count (Some d) =
-    if is_array_of_tables d then count_faults part count (length (list_in d)) else WrongKind (path_to part 0 Whole) ∷ []
+    if is_array_of_tables d then count_faults part count (length (list_in d))
+    else WrongKind (path_to part 0 Whole) ∷ []
 
 -- the elements of a list that a key holds
 abbrev pub elements_in : Option Data → List Data
@@ -113,16 +124,19 @@ table_faults_at part rows index ms = table_faults part index rows ms
 -- each key of each table of a part
 abbrev pub elements_faults : Format → Part → Members → List PlantFault
 elements_faults format part doc =
-    faults_of_elements (table_faults_at part (rows format part)) (enumerate_from 0 (elements_at part doc))
+    faults_of_elements (table_faults_at part (rows format part))
+    (enumerate_from 0 (elements_at part doc))
 
 abbrev pub part_faults : Format → Members → Part → List PlantFault
 part_faults format doc part =
-    array_faults part (count_of format part) (get_member (part_text part) doc) ++ elements_faults format part doc
+    array_faults part (count_of format part) (get_member (part_text part) doc)
+    ++ elements_faults format part doc
 
 -- missing keys, wrong kinds and broken limits, key by key
 abbrev pub faults_of_keys : Format → Members → List PlantFault
 faults_of_keys format doc =
-    table_faults Top 0 (rows format Top) doc ++ controller_faults format doc ++ flat_map (part_faults format doc) arrays
+    table_faults Top 0 (rows format Top) doc ++ controller_faults format doc
+    ++ flat_map (part_faults format doc) arrays
 
 -- a table with no other keys than these
 abbrev pub has_known : List (List ℕ) → Members → Bool
@@ -142,19 +156,22 @@ unknown_below faults (Some d) = in_element faults d
 
 abbrev pub unknown_in_axis : Format → Members → ℕ → List PlantFault
 unknown_in_axis format controller index =
-    unknown_below (unknown_faults Controller index (row_keys (rows format Controller))) (get_member (axis_text index) controller)
+    unknown_below (unknown_faults Controller index (row_keys (rows format Controller)))
+    (get_member (axis_text index) controller)
 
 -- the table `controller` and its three tables
 abbrev pub unknown_in_controller : Format → Members → List PlantFault
 unknown_in_controller format controller =
-    unknown_faults Controller 0 axis_keys controller ++ flat_map (unknown_in_axis format controller) axes
+    unknown_faults Controller 0 axis_keys controller
+    ++ flat_map (unknown_in_axis format controller) axes
 
 abbrev pub unknown_faults_at : Part → List Row → ℕ → Members → List PlantFault
 unknown_faults_at part rows index ms = unknown_faults part index (row_keys rows) ms
 
 abbrev pub unknown_in_part : Format → Members → Part → List PlantFault
 unknown_in_part format doc part =
-    faults_of_elements (unknown_faults_at part (rows format part)) (enumerate_from 0 (elements_at part doc))
+    faults_of_elements (unknown_faults_at part (rows format part))
+    (enumerate_from 0 (elements_at part doc))
 
 -- keys that a table can't have, table by table
 abbrev pub faults_of_unknown_keys : Format → Members → List PlantFault

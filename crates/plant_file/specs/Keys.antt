@@ -1,10 +1,16 @@
 -- The table of keys: which keys a table of each part of the file has, and what each holds.
 use Rattle.std.specs.Prelude.{ℕ, ℤ, pos, List, [], ◌∷◌, ◌++◌, ◌-◌, map, true, false}
-use Rattle.plant_model.specs.declared.limits.TheConstants.{AXES, FARTHEST_LEVER, MOST_GAIN, MOST_GENERATORS, MOST_GROUPS, MOST_GROUPS_OF_FORMAT_1, MOST_MEMBERS, MOST_MOMENT, MOST_PIECES, MOST_POWER, MOST_SECTIONS, MOST_SUM_LIMIT, MOST_THRUST, MOST_THRUSTERS, MOST_TIES}
+use Rattle.plant_model.specs.declared.limits.TheConstants.{AXES, FARTHEST_LEVER, MOST_GAIN}
+use Rattle.plant_model.specs.declared.limits.TheConstants.{MOST_GENERATORS, MOST_GROUPS}
+use Rattle.plant_model.specs.declared.limits.TheConstants.{MOST_GROUPS_OF_FORMAT_1, MOST_MEMBERS}
+use Rattle.plant_model.specs.declared.limits.TheConstants.{MOST_MOMENT, MOST_PIECES, MOST_POWER}
+use Rattle.plant_model.specs.declared.limits.TheConstants.{MOST_SECTIONS, MOST_SUM_LIMIT}
+use Rattle.plant_model.specs.declared.limits.TheConstants.{MOST_THRUST, MOST_THRUSTERS, MOST_TIES}
 use Rattle.plant_file.specs.Kinds.{exactly, from_to, span, within}
 use Rattle.plant_file.specs.Texts.{part_text, key_text, axis_text}
 use Rattle.plant_file.specs.declared.fault.Part.{Part}
-use Rattle.plant_file.specs.declared.fault.Part.TheVariants.{Top, Controller, Section, Tie, Generator, Thruster, Group}
+use Rattle.plant_file.specs.declared.fault.Part.TheVariants.{Top, Controller, Section, Tie}
+use Rattle.plant_file.specs.declared.fault.Part.TheVariants.{Generator, Thruster, Group}
 use Rattle.plant_file.specs.declared.fault.Key.{Key}
 use Rattle.plant_file.specs.declared.fault.Key.TheVariants as key
 use Rattle.plant_file.specs.declared.key.Format.{Format}
@@ -79,10 +85,13 @@ thruster_rows_of_1 =
 abbrev pub thruster_rows : Format → List Row
 thruster_rows One = thruster_rows_of_1
 thruster_rows Two =
-    thruster_rows_of_1 ++ optional key.Barred (kind.Wholes (from_to 0 MOST_PIECES) (span (pos 0) (pos (MOST_PIECES - 1)))) ∷ []
+    thruster_rows_of_1
+    ++ optional key.Barred
+    (kind.Wholes (from_to 0 MOST_PIECES) (span (pos 0) (pos (MOST_PIECES - 1)))) ∷ []
 
 abbrev pub group_rows : List Row
-group_rows = needed key.Name kind.Name ∷ needed key.Members (kind.Texts (from_to 1 MOST_MEMBERS)) ∷ []
+group_rows =
+    needed key.Name kind.Name ∷ needed key.Members (kind.Texts (from_to 1 MOST_MEMBERS)) ∷ []
 
 -- the keys of a table of the part, in their order
 abbrev pub rows : Format → Part → List Row

@@ -1,18 +1,23 @@
 -- What a key may hold: its kind, and the limits of its numbers, counts and names.
-use Rattle.std.specs.Prelude.{ℕ, ℤ, pos, int_le, List, length, map, Bool, true, false, not, ◌&&◌, ◌||◌, ◌==◌, nat_le, neg_ℤ, ◌-◌}
+use Rattle.std.specs.Prelude.{ℕ, ℤ, pos, int_le, List, length, map, Bool, true, false, not, ◌&&◌}
+use Rattle.std.specs.Prelude.{◌||◌, ◌==◌, nat_le, neg_ℤ, ◌-◌}
 use Rattle.std.specs.List.{list_all}
 use Rattle.plant_model.specs.Names.{is_name}
 use Rattle.plant_model.specs.Plants.{is_wind_row, are_thresholds_from}
 use Rattle.plant_model.specs.Rings.{is_ring_point}
 use Rattle.plant_model.specs.declared.controller.WindRow.{WindRow}
-use Rattle.plant_model.specs.declared.limits.TheConstants.{AXES, FEWEST_RING_POINTS, MOST_RING_POINTS, MOST_SECTORS, THRESHOLDS, WIND_ROWS}
+use Rattle.plant_model.specs.declared.limits.TheConstants.{AXES, FEWEST_RING_POINTS}
+use Rattle.plant_model.specs.declared.limits.TheConstants.{MOST_RING_POINTS, MOST_SECTORS}
+use Rattle.plant_model.specs.declared.limits.TheConstants.{THRESHOLDS, WIND_ROWS}
 use Rattle.plant_model.specs.declared.thrust.Point.{Point}
 use Rattle.toml.specs.Data.{Data, array}
-use Rattle.plant_file.specs.Documents.{elements, list_in, is_whole, is_text, is_truth, number_in, number_at, text_in, natural}
+use Rattle.plant_file.specs.Documents.{elements, list_in, is_whole, is_text, is_truth, number_in}
+use Rattle.plant_file.specs.Documents.{number_at, text_in, natural}
 use Rattle.plant_file.specs.declared.kind.Count.{Count}
 use Rattle.plant_file.specs.declared.kind.Span.{Span}
 use Rattle.plant_file.specs.declared.kind.Kind.{Kind}
-use Rattle.plant_file.specs.declared.kind.Kind.TheVariants.{Whole, Name, Truth, Texts, Wholes, Thresholds, Wind, Ring, Sectors}
+use Rattle.plant_file.specs.declared.kind.Kind.TheVariants.{Whole, Name, Truth, Texts, Wholes}
+use Rattle.plant_file.specs.declared.kind.Kind.TheVariants.{Thresholds, Wind, Ring, Sectors}
 
 abbrev pub exactly : ℕ → Count
 exactly n = record { fewest = n; most = n }
@@ -87,8 +92,10 @@ keeps_limit (Whole limits) d = is_in limits d
 keeps_limit Name d = is_name (text_in d)
 keeps_limit Truth d = true
 keeps_limit (Texts count) d = is_count count (list_in d)
-keeps_limit (Wholes count limits) d = is_count count (list_in d) && list_all (is_in limits) (list_in d)
+keeps_limit (Wholes count limits) d =
+    is_count count (list_in d) && list_all (is_in limits) (list_in d)
 keeps_limit Thresholds d = are_thresholds_from 1 (map (λ e. natural (number_in e)) (list_in d))
 keeps_limit Wind d = list_all (λ e. is_wind_row (wind_row_in e)) (list_in d)
-keeps_limit Ring d = is_count ring_count (list_in d) && list_all (λ e. is_ring_point (point_in e)) (list_in d)
+keeps_limit Ring d =
+    is_count ring_count (list_in d) && list_all (λ e. is_ring_point (point_in e)) (list_in d)
 keeps_limit Sectors d = is_count sectors_count (list_in d) && list_all are_places (list_in d)

@@ -5,4 +5,5 @@ pub mod Faults
 pub mod Keys
 pub mod Kinds
 pub mod PlantText
+pub mod RightKeys
 pub mod Texts

@@ -1,5 +1,6 @@
 -- The plant that bytes describe, or their first fault.
-use Rattle.std.specs.Prelude.{ℕ, List, [], ◌∷◌, ◌++◌, length, map, Bool, ◌&&◌, ◌==◌, nat_le, nat_lt, if◌then◌else◌, Option, Some, None, Result, Ok, Err}
+use Rattle.std.specs.Prelude.{ℕ, List, [], ◌∷◌, ◌++◌, length, map, Bool, ◌&&◌, ◌==◌, nat_le, nat_lt}
+use Rattle.std.specs.Prelude.{if◌then◌else◌, Option, Some, None, Result, Ok, Err}
 use Rattle.std.specs.List.{enumerate_from, flat_map, list_all, list_any}
 use Rattle.std.specs.Str.{bytes_eq, is_utf8}
 use Rattle.plant_model.specs.Plants.{are_distinct, choices_of}
@@ -8,15 +9,23 @@ use Rattle.plant_model.specs.declared.limits.TheConstants.{MOST_CHOICES, MOST_PL
 use Rattle.plant_model.specs.declared.plant.Parts.{Parts}
 use Rattle.toml.specs.Data.{Data, Members}
 use Rattle.toml.specs.Parse.{parse_document}
-use Rattle.plant_file.specs.Described.{all_names, names_of, naturals_at, parts_in, pieces_in, points_at, sectors_at, text_at, texts_at}
-use Rattle.plant_file.specs.Faults.{elements_at, faults_of_keys, faults_of_unknown_keys, format_of, path_to}
+use Rattle.plant_file.specs.Described.{all_names, names_of, naturals_at, parts_in, pieces_in}
+use Rattle.plant_file.specs.Described.{points_at, sectors_at, text_at, texts_at}
+use Rattle.plant_file.specs.Faults.{elements_at, faults_of_keys, faults_of_unknown_keys, format_of}
+use Rattle.plant_file.specs.Faults.{path_to}
 use Rattle.plant_file.specs.declared.fault.Key.{Key}
-use Rattle.plant_file.specs.declared.fault.Key.TheVariants.{Name, Section as FedBy, Ends, Members as MembersKey, Ring, Forbid, Barred}
+use Rattle.plant_file.specs.declared.fault.Key.TheVariants.{Name, Section as FedBy, Ends}
+use Rattle.plant_file.specs.declared.fault.Key.TheVariants.{Members as MembersKey, Ring, Forbid}
+use Rattle.plant_file.specs.declared.fault.Key.TheVariants.{Barred}
 use Rattle.plant_file.specs.declared.fault.Part.{Part}
-use Rattle.plant_file.specs.declared.fault.Part.TheVariants.{Section, Tie, Generator, Thruster, Group}
+use Rattle.plant_file.specs.declared.fault.Part.TheVariants.{Section, Tie, Generator, Thruster}
+use Rattle.plant_file.specs.declared.fault.Part.TheVariants.{Group}
 use Rattle.plant_file.specs.declared.fault.Path.{Path}
 use Rattle.plant_file.specs.declared.fault.PlantFault.{PlantFault}
-use Rattle.plant_file.specs.declared.fault.PlantFault.TheVariants.{NotToml, NameTwice, UnknownName, RingNotConvex, SectorBad, TooManyChoices, TooLong, PieceBad}
+use Rattle.plant_file.specs.declared.fault.PlantFault.TheVariants.{NotToml, NameTwice, UnknownName}
+use Rattle.plant_file.specs.declared.fault.PlantFault.TheVariants.{RingNotConvex, SectorBad}
+use Rattle.plant_file.specs.declared.fault.PlantFault.TheVariants.{TooManyChoices, TooLong}
+use Rattle.plant_file.specs.declared.fault.PlantFault.TheVariants.{PieceBad}
 
 -- the elements of a part, each with its place
 abbrev pub placed : Part → Members → List (ℕ × Data)
@@ -24,7 +33,8 @@ placed part doc = enumerate_from 0 (elements_at part doc)
 
 -- the names of elements of a part, of which the first has this place, each with its path
 abbrev pub named_from : Part → ℕ → List Data → List (Path × List ℕ)
-named_from part first ds = map (λ e. (path_to part e.0 Name, text_at Name e.1)) (enumerate_from first ds)
+named_from part first ds =
+    map (λ e. (path_to part e.0 Name, text_at Name e.1)) (enumerate_from first ds)
 
 -- the names of a part's elements, each with its path
 abbrev pub named : Part → Members → List (Path × List ℕ)
@@ -36,15 +46,19 @@ unless good fault = if good then [] else fault ∷ []
 -- names that equal an earlier one, where these are earlier than all
 abbrev pub twice_after : List (List ℕ) → List (Path × List ℕ) → List PlantFault
 twice_after earlier [] = []
-twice_after earlier (n ∷ ns) = (if list_any (bytes_eq n.1) earlier then NameTwice n.0 ∷ [] else []) ++ twice_after (earlier ++ n.1 ∷ []) ns
+twice_after earlier (n ∷ ns) =
+    (if list_any (bytes_eq n.1) earlier then NameTwice n.0 ∷ [] else [])
+    ++ twice_after (earlier ++ n.1 ∷ []) ns
 
 -- a list of texts of which two are equal
 abbrev pub repeated : Part → Key → ℕ × Data → List PlantFault
-repeated part key e = unless (are_distinct bytes_eq (texts_at key e.1)) (NameTwice (path_to part e.0 key))
+repeated part key e =
+    unless (are_distinct bytes_eq (texts_at key e.1)) (NameTwice (path_to part e.0 key))
 
 -- names of sections, ties, generators and thrusters that stand twice
 abbrev pub faults_of_part_names : Members → List PlantFault
-faults_of_part_names doc = twice_after [] (named Section doc ++ named Tie doc ++ named Generator doc ++ named Thruster doc)
+faults_of_part_names doc =
+    twice_after [] (named Section doc ++ named Tie doc ++ named Generator doc ++ named Thruster doc)
 
 -- names that stand twice, ties with two equal ends, and groups that have a member twice
 abbrev pub faults_of_names : Members → List PlantFault
@@ -59,11 +73,13 @@ are_known names texts = list_all (λ text. list_any (bytes_eq text) names) texts
 
 -- a list of texts of which one is none of the names
 abbrev pub unknown : List (List ℕ) → Part → Key → ℕ × Data → List PlantFault
-unknown names part key e = unless (are_known names (texts_at key e.1)) (UnknownName (path_to part e.0 key))
+unknown names part key e =
+    unless (are_known names (texts_at key e.1)) (UnknownName (path_to part e.0 key))
 
 -- a section that is none
 abbrev pub unfed : List (List ℕ) → Part → ℕ × Data → List PlantFault
-unfed names part e = unless (are_known names (text_at FedBy e.1 ∷ [])) (UnknownName (path_to part e.0 FedBy))
+unfed names part e =
+    unless (are_known names (text_at FedBy e.1 ∷ [])) (UnknownName (path_to part e.0 FedBy))
 
 -- ends of ties, sections and members that are no part's names
 abbrev pub faults_of_references : Members → List PlantFault
@@ -76,7 +92,8 @@ faults_of_references doc =
 
 -- the barred pieces are there, and none stands twice
 abbrev pub are_barred : ℕ → List ℕ → Bool
-are_barred pieces places = list_all (λ place. nat_lt place pieces) places && are_distinct (λ a b. a == b) places
+are_barred pieces places =
+    list_all (λ place. nat_lt place pieces) places && are_distinct (λ a b. a == b) places
 
 -- a thruster's ring, its sectors and its barred pieces
 abbrev pub thruster_faults : ℕ × Data → List PlantFault
@@ -103,7 +120,8 @@ abbrev pub unless_faulty : {A : Type 0} → List PlantFault → A → Result A P
 unless_faulty [] x = Ok x
 unless_faulty (fault ∷ faults) x = Err fault
 
-abbrev pub then_judged : {A B : Type 0} → Result A PlantFault → (A → Result B PlantFault) → Result B PlantFault
+abbrev pub then_judged : {A B : Type 0} → Result A PlantFault → (A → Result B PlantFault)
+    → Result B PlantFault
 then_judged (Ok x) f = f x
 then_judged (Err fault) f = Err fault
 
@@ -116,12 +134,15 @@ abbrev pub parsed : List ℕ → Option Members
 parsed bytes = if is_utf8 bytes then parse_document bytes else None
 
 abbrev pub document_of : List ℕ → Result Members PlantFault
-document_of bytes = if nat_lt MOST_PLANT_BYTES (length bytes) then Err TooLong else toml_or_fault (parsed bytes)
+document_of bytes =
+    if nat_lt MOST_PLANT_BYTES (length bytes) then Err TooLong else toml_or_fault (parsed bytes)
 
 -- the document with its keys judged
 abbrev pub right_document : List ℕ → Result Members PlantFault
-right_document bytes = then_judged (document_of bytes) (λ doc. unless_faulty (key_faults_of doc) doc)
+right_document bytes =
+    then_judged (document_of bytes) (λ doc. unless_faulty (key_faults_of doc) doc)
 
 -- the plant, or the first fault
 abbrev pub plant_of : List ℕ → Result Parts PlantFault
-plant_of bytes = then_judged (right_document bytes) (λ doc. unless_faulty (other_faults_of doc) (parts_in doc))
+plant_of bytes =
+    then_judged (right_document bytes) (λ doc. unless_faulty (other_faults_of doc) (parts_in doc))

@@ -7,7 +7,12 @@ use Rattle.plant_file.specs.declared.fault.Key.{Key}
 use Rattle.plant_file.specs.declared.fault.Key.TheVariants as key
 use Rattle.plant_file.specs.declared.fault.Path.{Path}
 use Rattle.plant_file.specs.declared.fault.PlantFault.{PlantFault}
-use Rattle.plant_file.specs.declared.fault.PlantFault.TheVariants.{NotToml, MissingKey, WrongKind, OutOfLimit, NameTwice, UnknownName, RingNotConvex, SectorBad, TooManyChoices, UnknownKey, TooLong, PieceBad, NoMemory}
+use Rattle.plant_file.specs.declared.fault.PlantFault.TheVariants.{NotToml, MissingKey, WrongKind}
+use Rattle.plant_file.specs.declared.fault.PlantFault.TheVariants.{OutOfLimit, NameTwice}
+use Rattle.plant_file.specs.declared.fault.PlantFault.TheVariants.{UnknownName, RingNotConvex}
+use Rattle.plant_file.specs.declared.fault.PlantFault.TheVariants.{SectorBad, TooManyChoices}
+use Rattle.plant_file.specs.declared.fault.PlantFault.TheVariants.{UnknownKey, TooLong, PieceBad}
+use Rattle.plant_file.specs.declared.fault.PlantFault.TheVariants.{NoMemory}
 
 abbrev pub part_text : Part → List ℕ
 part_text part.Top = codes "top"
@@ -45,7 +50,8 @@ key_text key.Members = codes "members"
 
 -- the keys of the controller's three tables
 abbrev pub axis_text : ℕ → List ℕ
-axis_text index = if index == 0 then codes "surge" else (if index == 1 then codes "sway" else codes "yaw")
+axis_text index =
+    if index == 0 then codes "surge" else (if index == 1 then codes "sway" else codes "yaw")
 
 -- the text of a whole table of a part
 abbrev pub table_text : Part → ℕ → List ℕ

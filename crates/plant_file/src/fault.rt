@@ -1,8 +1,11 @@
 //! Why bytes describe no plant, and where in the file.
-ghost use Rattle.std.specs.Prelude.{◌≡◌};
+ghost use Rattle.std.specs.Prelude.{◌≡◌, ◌≤◌, length};
 ghost use Rattle.plant_file.specs.Texts.{axis_text, fault_number, key_text, part_text};
 
 use std::fmt;
+
+/// The bytes of a key and of a part's text: at most this many.
+pub const MOST_KEY_BYTES: usize = 10;
 
 /// A part of the file: the whole document, its table `controller`, or one of its arrays of tables.
 #[derive(Clone, Copy, Debug, PartialEq, Eq)]
@@ -17,10 +20,11 @@ pub enum Part {
 }
 
 impl Part {
-    /// The key at which the part stands in the document: `section` for the sections. The whole document has no
-    /// key, and is called `top`.
+    /// The key at which the part stands in the document: `section` for the sections. The whole
+    /// document has no key, and is called `top`.
     pub fn text(self) -> &'static str
-        ensures { result.now ≡ part_text self }
+        ensures text { result.now ≡ part_text self }
+        ensures short { length result.now ≤ MOST_KEY_BYTES }
     {
         match self {
             Part::Top => "top",
@@ -65,7 +69,8 @@ pub enum Key {
 impl Key {
     /// The key as the file has it. A whole table has no key, and an empty text.
     pub fn text(self) -> &'static str
-        ensures { result.now ≡ key_text self }
+        ensures text { result.now ≡ key_text self }
+        ensures short { length result.now ≤ MOST_KEY_BYTES }
     {
         match self {
             Key::Whole => "",
@@ -95,12 +100,12 @@ impl Key {
     }
 }
 
-/// A place in the file. The index is the place of an element in its array of tables, from 0; for the tables
-/// `surge`, `sway` and `yaw` of the controller it is 0 to 2; for all else 0.
+/// A place in the file. The index is the place of an element in its array of tables, from 0; for
+/// the tables `surge`, `sway` and `yaw` of the controller it is 0 to 2; for all else 0.
 ///
-/// Its text is `format` for a key of the document, `top` for the whole document, `controller.surge.kp`,
-/// `thruster[0].ring`, and `thruster[0]` or `controller.surge` for a whole table. The whole table `controller`
-/// has the text `controller.surge` too.
+/// Its text is `format` for a key of the document, `top` for the whole document,
+/// `controller.surge.kp`, `thruster[0].ring`, and `thruster[0]` or `controller.surge` for a whole
+/// table. The whole table `controller` has the text `controller.surge` too.
 #[derive(Clone, Copy, Debug, PartialEq, Eq)]
 pub struct Path {
     pub part: Part,
@@ -109,8 +114,9 @@ pub struct Path {
 }
 
 /// The key of one of the controller's tables.
-pub(crate) fn axis_text(index: u32) -> &'static str
-    ensures { result.now ≡ axis_text index }
+pub fn axis_text(index: u32) -> &'static str
+    ensures text { result.now ≡ axis_text index }
+    ensures short { length result.now ≤ MOST_KEY_BYTES }
 {
     match index {
         0 => "surge",
@@ -168,10 +174,11 @@ pub enum PlantFault {
     UnknownName(Path),
     /// The ring isn't convex round the origin.
     RingNotConvex(u32),
-    /// A forbidden sector has a place that the ring doesn't have, or two equal ones, or an edge is covered twice,
-    /// or a ring of two points has sectors.
+    /// A forbidden sector has a place that the ring doesn't have, or two equal ones, or an edge is
+    /// covered twice, or a ring of two points has sectors.
     SectorBad(u32),
-    /// There are more than [`plant_model::limits::MOST_CHOICES`] choices of one piece for each thruster.
+    /// There are more than [`plant_model::limits::MOST_CHOICES`] choices of one piece for each
+    /// thruster.
     TooManyChoices,
     /// A table has a key that it can't have.
     UnknownKey(Path),
@@ -184,8 +191,8 @@ pub enum PlantFault {
 }
 
 impl PlantFault {
-    /// The fault's number: 1 to 12, in the order of the variants but for `PieceBad`, which is 12; 0 for
-    /// `NoMemory`.
+    /// The fault's number: 1 to 12, in the order of the variants but for `PieceBad`, which is 12; 0
+    /// for `NoMemory`.
     pub fn number(self) -> u32
         ensures { result ≡ fault_number self }
     {

@@ -4,7 +4,10 @@ ghost use Rattle.std.specs.List.{flat_map, list_all, enumerate_from};
 ghost use Rattle.toml.specs.View.{view, table_view};
 ghost use Rattle.plant_file.specs.Documents.{is_table};
 ghost use Rattle.plant_file.specs.Keys.{arrays, axes};
-ghost use Rattle.plant_file.specs.Faults.{array_faults, axis_faults, controller_faults, elements_at, faults_of_elements, faults_of_keys, format_of, in_element, judged, part_faults, path_to, row_faults, table_faults, table_faults_at, value_faults};
+ghost use Rattle.plant_file.specs.Faults.{array_faults, axis_faults, controller_faults};
+ghost use Rattle.plant_file.specs.Faults.{elements_at, faults_of_elements, faults_of_keys};
+ghost use Rattle.plant_file.specs.Faults.{format_of, in_element, judged, part_faults, path_to};
+ghost use Rattle.plant_file.specs.Faults.{row_faults, table_faults, table_faults_at, value_faults};
 
 use crate::document::{list, number, value_at};
 use crate::fault::{Key, Part, Path, PlantFault, axis_text};
@@ -118,7 +121,8 @@ fn are_tables(values: &[Value]) -> bool
 
 /// Judges an array of tables itself, and not its elements.
 fn judge_array(part: Part, count: Count, value: Option<&Value>) -> Result<(), PlantFault>
-    ensures { result ≡ judged (array_faults part count (option_map (λ value. view value.now) value.entry)) }
+    ensures { result
+        ≡ judged (array_faults part count (option_map (λ value. view value.now) value.entry)) }
 {
     let Some(value) = value else {
         return if count.fewest >= 1 {
@@ -151,7 +155,9 @@ fn judge_element(element: &Value, part: Part, index: u32, rows: &[Row]) -> Resul
 /// Judges each key of each of the tables, which are the part's.
 fn judge_elements(elements: &[Value], part: Part, rows: &[Row]) -> Result<(), PlantFault>
     requires { length elements.now < 2 ^ 32 }
-    ensures { result ≡ judged (faults_of_elements (table_faults_at part rows.now) (enumerate_from 0 (map view elements.now))) }
+    ensures { result
+        ≡ judged (faults_of_elements (table_faults_at part rows.now)
+        (enumerate_from 0 (map view elements.now))) }
 {
     for (index, element) in elements.iter().enumerate() {
         judge_element(element, part, index as u32, rows)?;
@@ -159,7 +165,8 @@ fn judge_elements(elements: &[Value], part: Part, rows: &[Row]) -> Result<(), Pl
     Ok(())
 }
 
-/// The elements of an array of tables. None where it is missing, and for a part that is no array of tables.
+/// The elements of an array of tables. None where it is missing, and for a part that is no array of
+/// tables.
 pub fn elements(document: &Table, part: Part) -> &[Value]
     ensures { elements_at part (table_view document.now) ≡ map view result.now }
 {

@@ -236,8 +236,8 @@ const GROUP: [Row; 2] = [
     },
 ];
 
-/// The keys of a table of the part, in the order in which they are judged. Those of the controller are the keys
-/// of each of its three tables.
+/// The keys of a table of the part, in the order in which they are judged. Those of the controller
+/// are the keys of each of its three tables.
 pub fn rows(format: Format, part: Part) -> &'static [Row]
     ensures { result.now ≡ rows format part }
 {

@@ -6,7 +6,9 @@ ghost use Rattle.plant_model.specs.Names.{is_name};
 ghost use Rattle.plant_model.specs.Plants.{are_thresholds_from, is_wind_row};
 ghost use Rattle.plant_model.specs.Rings.{is_ring_point};
 ghost use Rattle.plant_file.specs.Documents.{is_text, is_whole, natural, number_in};
-ghost use Rattle.plant_file.specs.Kinds.{are_places, exactly, has_kind, is_count, is_in, is_list, is_list_of_wholes, is_list_of_rows, keeps_limit, point_in, wind_row_in};
+ghost use Rattle.plant_file.specs.Kinds.{are_places, exactly, has_kind, is_count, is_in, is_list};
+ghost use Rattle.plant_file.specs.Kinds.{is_list_of_wholes, is_list_of_rows, keeps_limit, point_in};
+ghost use Rattle.plant_file.specs.Kinds.{wind_row_in};
 
 use crate::document::{list, number, number_at, text};
 use plant_model::limits::{
@@ -16,7 +18,8 @@ use plant_model::limits::{
 use plant_model::name::Name;
 use toml::Value;
 
-/// How many elements a list has. One that must have the one number has another kind where it has another.
+/// How many elements a list has. One that must have the one number has another kind where it has
+/// another.
 #[derive(Clone, Copy, Debug, PartialEq, Eq)]
 pub struct Count {
     pub fewest: u32,
@@ -157,9 +160,11 @@ fn is_name(text: &str) -> bool
     Name::of(text.as_bytes()).is_some()
 }
 
-/// Whether each of the numbers is at least the one before, the first at least 1, and the last within the limit.
+/// Whether each of the numbers is at least the one before, the first at least 1, and the last
+/// within the limit.
 fn are_thresholds(values: &[Value]) -> bool
-    ensures { result ≡ are_thresholds_from 1 (map (λ d. natural (number_in d)) (map view values.now)) }
+    ensures { result
+        ≡ are_thresholds_from 1 (map (λ d. natural (number_in d)) (map view values.now)) }
 {
     let mut least = 1;
     for value in values {

@@ -9,7 +9,9 @@ ghost use Rattle.plant_file.specs.declared.fault.Part.TheVariants.{Section};
 ghost use Rattle.plant_file.specs.Documents.{text_in};
 ghost use Rattle.plant_file.specs.Described.{names_of, names_of_parts, text_at};
 ghost use Rattle.plant_file.specs.Faults.{judged, HasShortArrays};
-ghost use Rattle.plant_file.specs.PlantText.{are_known, faults_of_names, faults_of_references, faults_of_part_names, named, placed, repeated, twice_after, unfed, unknown};
+ghost use Rattle.plant_file.specs.PlantText.{are_known, faults_of_names, faults_of_references};
+ghost use Rattle.plant_file.specs.PlantText.{faults_of_part_names, named, placed, repeated};
+ghost use Rattle.plant_file.specs.PlantText.{twice_after, unfed, unknown};
 
 use crate::document::{list_at, text, text_at};
 use crate::fault::{Key, Part, Path, PlantFault};
@@ -27,7 +29,8 @@ fn is_name_of(sought: &str, elements: &[Value]) -> bool
 
 /// Whether the text is the name of an element of one of the parts.
 fn is_name_in(sought: &str, document: &Table, parts: &[Part]) -> bool
-    ensures { result ≡ list_any (bytes_eq sought.now) (names_of_parts parts.now (table_view document.now)) }
+    ensures { result
+        ≡ list_any (bytes_eq sought.now) (names_of_parts parts.now (table_view document.now)) }
 {
     parts
         .iter()
@@ -36,7 +39,10 @@ fn is_name_in(sought: &str, document: &Table, parts: &[Part]) -> bool
 
 /// Whether the text is the name of an element of one of the parts, or of one of the elements.
 fn stands_earlier(sought: &str, document: &Table, parts: &[Part], elements: &[Value]) -> bool
-    ensures { result ≡ list_any (bytes_eq sought.now) (names_of_parts parts.now (table_view document.now) ++ map (text_at Name) (map view elements.now)) }
+    ensures { result
+        ≡ list_any (bytes_eq sought.now)
+        (names_of_parts parts.now (table_view document.now)
+        ++ map (text_at Name) (map view elements.now)) }
 {
     is_name_in(sought, document, parts) || is_name_of(sought, elements)
 }
@@ -62,17 +68,22 @@ fn are_distinct_texts(values: &[Value]) -> bool
 
 /// Whether each of the values is a name of one of the parts.
 fn are_known(values: &[Value], document: &Table, parts: &[Part]) -> bool
-    ensures { result ≡ are_known (names_of_parts parts.now (table_view document.now)) (map text_in (map view values.now)) }
+    ensures { result
+        ≡ are_known (names_of_parts parts.now (table_view document.now))
+        (map text_in (map view values.now)) }
 {
     values
         .iter()
         .all(|value| is_name_in(text(value), document, parts))
 }
 
-/// Judges the names of a part's elements, of which none may be one of the earlier parts' or of an earlier element's.
+/// Judges the names of a part's elements, of which none may be one of the earlier parts' or of an
+/// earlier element's.
 fn judge_names_of(document: &Table, earlier: &[Part], part: Part) -> Result<(), PlantFault>
     requires { HasShortArrays (table_view document.now) }
-    ensures { result ≡ judged (twice_after (names_of_parts earlier.now (table_view document.now)) (named part (table_view document.now))) }
+    ensures { result
+        ≡ judged (twice_after (names_of_parts earlier.now (table_view document.now))
+        (named part (table_view document.now))) }
 {
     let elements = elements(document, part);
     for (index, element) in elements.iter().enumerate() {
@@ -102,7 +113,8 @@ fn judge_repeated_in(element: &Value, part: Part, index: u32, key: Key) -> Resul
 /// Judges the lists of texts at a key of a part's elements: no two of one may be equal.
 fn judge_repeated(document: &Table, part: Part, key: Key) -> Result<(), PlantFault>
     requires { HasShortArrays (table_view document.now) }
-    ensures { result ≡ judged (flat_map (repeated part key) (placed part (table_view document.now))) }
+    ensures { result
+        ≡ judged (flat_map (repeated part key) (placed part (table_view document.now))) }
 {
     let elements = elements(document, part);
     for (index, element) in elements.iter().enumerate() {
@@ -120,7 +132,9 @@ fn judge_unknown_in(
     document: &Table,
     cited: &[Part],
 ) -> Result<(), PlantFault>
-    ensures { result ≡ judged (unknown (names_of_parts cited.now (table_view document.now)) part key (index, view element.now)) }
+    ensures { result
+        ≡ judged (unknown (names_of_parts cited.now (table_view document.now)) part key
+        (index, view element.now)) }
 {
     if are_known(list_at(element, key), document, cited) {
         Ok(())
@@ -129,10 +143,13 @@ fn judge_unknown_in(
     }
 }
 
-/// Judges the lists of texts at a key of a part's elements: each must be a name of one of the cited parts.
+/// Judges the lists of texts at a key of a part's elements: each must be a name of one of the cited
+/// parts.
 fn judge_unknown(document: &Table, part: Part, key: Key, cited: &[Part]) -> Result<(), PlantFault>
     requires { HasShortArrays (table_view document.now) }
-    ensures { result ≡ judged (flat_map (unknown (names_of_parts cited.now (table_view document.now)) part key) (placed part (table_view document.now))) }
+    ensures { result
+        ≡ judged (flat_map (unknown (names_of_parts cited.now (table_view document.now)) part key)
+        (placed part (table_view document.now))) }
 {
     let elements = elements(document, part);
     for (index, element) in elements.iter().enumerate() {
@@ -148,7 +165,9 @@ fn judge_feeder(
     index: u32,
     sections: &[Value],
 ) -> Result<(), PlantFault>
-    ensures { result ≡ judged (unfed (map (text_at Name) (map view sections.now)) part (index, view element.now)) }
+    ensures { result
+        ≡ judged (unfed (map (text_at Name) (map view sections.now)) part
+        (index, view element.now)) }
 {
     if is_name_of(text_at(element, Key::Section), sections) {
         Ok(())
@@ -164,7 +183,9 @@ fn judge_feeder(
 /// Judges the sections that feed a part's elements.
 fn judge_feeders(document: &Table, part: Part) -> Result<(), PlantFault>
     requires { HasShortArrays (table_view document.now) }
-    ensures { result ≡ judged (flat_map (unfed (names_of Section (table_view document.now)) part) (placed part (table_view document.now))) }
+    ensures { result
+        ≡ judged (flat_map (unfed (names_of Section (table_view document.now)) part)
+        (placed part (table_view document.now))) }
 {
     let sections = elements(document, Part::Section);
     let elements = elements(document, part);
@@ -189,7 +210,8 @@ fn judge_part_names(document: &Table) -> Result<(), PlantFault>
     )
 }
 
-/// Judges that no name stands twice, that a tie's ends differ, and that no group has a member twice.
+/// Judges that no name stands twice, that a tie's ends differ, and that no group has a member
+/// twice.
 pub fn judge_names(document: &Table) -> Result<(), PlantFault>
     requires { HasShortArrays (table_view document.now) }
     ensures { result ≡ judged (faults_of_names (table_view document.now)) }
@@ -203,7 +225,8 @@ pub fn judge_names(document: &Table) -> Result<(), PlantFault>
 /// The parts that a group may have as members.
 const MEMBERS: [Part; 4] = [Part::Section, Part::Tie, Part::Generator, Part::Thruster];
 
-/// Judges that each section that is a tie's end or feeds a part is there, and each member of a group.
+/// Judges that each section that is a tie's end or feeds a part is there, and each member of a
+/// group.
 pub fn judge_references(document: &Table) -> Result<(), PlantFault>
     requires { HasShortArrays (table_view document.now) }
     ensures { result ≡ judged (faults_of_references (table_view document.now)) }

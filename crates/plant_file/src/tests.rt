@@ -1,5 +1,7 @@
 //! Documents of plant files, read and refused.
 
+mod plants;
+
 use crate::{PlantFault, read_document};
 use plant_model::limits::MOST_PLANT_BYTES;
 use std::alloc::{AllocError, Global};
@@ -31,8 +33,8 @@ kd = 500000
 limit = 1000000000
 ";
 
-/// A plant of one section, one thruster and some groups, with more lines for the yaw controller, the thruster and
-/// the last group.
+/// A plant of one section, one thruster and some groups, with more lines for the yaw controller,
+/// the thruster and the last group.
 fn plant(
     alloc: Global,
     format: u32,

@@ -6,7 +6,11 @@ ghost use Rattle.toml.specs.Data.{get_member};
 ghost use Rattle.toml.specs.View.{view, table_view};
 ghost use Rattle.plant_file.specs.Texts.{part_text};
 ghost use Rattle.plant_file.specs.Keys.{arrays, axis_keys, row_keys, top_keys};
-ghost use Rattle.plant_file.specs.Faults.{elements_at, faults_of_elements, faults_of_unknown_keys, in_element, has_known, judged, unknown_unless, unknown_faults, unknown_faults_at, unknown_below, unknown_in_axis, unknown_in_controller, unknown_in_part, HasShortArrays};
+ghost use Rattle.plant_file.specs.Faults.{elements_at, faults_of_elements, faults_of_unknown_keys};
+ghost use Rattle.plant_file.specs.Faults.{in_element, has_known, judged, unknown_unless};
+ghost use Rattle.plant_file.specs.Faults.{unknown_faults, unknown_faults_at, unknown_below};
+ghost use Rattle.plant_file.specs.Faults.{unknown_in_axis, unknown_in_controller, unknown_in_part};
+ghost use Rattle.plant_file.specs.Faults.{HasShortArrays};
 
 use crate::document::value_at;
 use crate::fault::{Part, PlantFault, axis_text};
@@ -84,7 +88,8 @@ fn judge_element_keys(
     index: u32,
     rows: &[Row],
 ) -> Result<(), PlantFault>
-    ensures { result ≡ judged (in_element (unknown_faults part index (row_keys rows.now)) (view element.now)) }
+    ensures { result
+        ≡ judged (in_element (unknown_faults part index (row_keys rows.now)) (view element.now)) }
 {
     match element.as_table() {
         Some(table) => judge_table_keys(has_rows(table, rows), part, index),
@@ -117,7 +122,9 @@ fn judge_keys_of_axes(controller: &Table, format: Format) -> Result<(), PlantFau
 }
 
 fn judge_keys_of_controller(document: &Table, format: Format) -> Result<(), PlantFault>
-    ensures { result ≡ judged (unknown_below (unknown_in_controller format) (get_member (part_text Part.Controller) (table_view document.now))) }
+    ensures { result
+        ≡ judged (unknown_below (unknown_in_controller format)
+        (get_member (part_text Part.Controller) (table_view document.now))) }
 {
     let Some(value) = value_at(document, Part::Controller.text()) else {
         return Ok(());
@@ -131,7 +138,9 @@ fn judge_keys_of_controller(document: &Table, format: Format) -> Result<(), Plan
 /// Judges the keys of each of the tables, which are the part's.
 fn judge_keys_of_elements(elements: &[Value], part: Part, rows: &[Row]) -> Result<(), PlantFault>
     requires { length elements.now < 2 ^ 32 }
-    ensures { result ≡ judged (faults_of_elements (unknown_faults_at part rows.now) (enumerate_from 0 (map view elements.now))) }
+    ensures { result
+        ≡ judged (faults_of_elements (unknown_faults_at part rows.now)
+        (enumerate_from 0 (map view elements.now))) }
 {
     for (index, element) in elements.iter().enumerate() {
         judge_element_keys(element, part, index as u32, rows)?;

@@ -3,6 +3,7 @@
 //! The x axis points forward, the y axis to starboard, and yaw is positive from x to y.
 #![tactic(auto)]
 
+pub mod board;
 pub mod controller;
 pub mod demo;
 pub mod limits;

@@ -58,7 +58,13 @@ pub const MOST_PLANT_BYTES: usize = 1_048_576;
 /// The entries of telegrams and notes that a session's history holds.
 pub const MOST_ENTRIES: u32 = 50_000;
 /// The bytes of a telegram stream.
-pub const MOST_STREAM_BYTES: usize = 65_536;
+pub const MOST_STREAM_BYTES: usize = 16_777_216;
+/// The alarms that the ring keeps.
+pub const MOST_ALARMS: usize = 256;
+/// The jobs that wait in the queue.
+pub const MOST_JOBS: usize = 256;
+/// The workers of a session: 1 to this many.
+pub const MOST_WORKERS: u32 = 8;
 
 /// The greatest demand along x and along y, ahead or astern, in kN: that of all thrusters.
 pub const MOST_FORCE: i32 = 24_000;

@@ -47,7 +47,7 @@ pub struct Thrust {
 }
 
 /// A thrust for each thruster, in order.
-#[derive(Debug, Default, Drop)]
+#[derive(Clone, Debug, Default, PartialEq, Eq, Drop)]
 pub struct Thrusts {
     pub list: ArrayVec<Thrust, MOST_THRUSTERS>,
 }

@@ -1,2 +1,8 @@
+pub mod Choices
+pub mod Fed
+pub mod Free
 pub mod Loads
+pub mod Numbered
 pub mod Places
+pub mod Plants
+pub mod Ways

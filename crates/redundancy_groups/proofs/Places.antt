@@ -7,6 +7,9 @@ pub record AreFilled (count : ℕ) (value : ℕ → Bool) (filled : ℕ) (list :
   pub long : length list ≡ count
   pub is : (k : ℕ) → k < filled → get_or list k false ≡ value k
 
-pub filled_more : (value : ℕ → Bool) (list : List Bool) (i : ℕ) (b : Bool) → i < length list → b ≡ value i → ((k : ℕ) → k < i → get_or list k false ≡ value k) → (k : ℕ) → k < i + 1 → get_or (set list i b) k false ≡ value k
+pub filled_more : (value : ℕ → Bool) (list : List Bool) (i : ℕ) (b : Bool) → i < length list →
+    b ≡ value i → ((k : ℕ) → k < i → get_or list k false ≡ value k) → (k : ℕ) → k < i + 1 →
+    get_or (set list i b) k false ≡ value k
 filled_more value list i b within is before =
-    subst (λ (x : Bool). (k : ℕ) → k < i + 1 → get_or (set list i x) k false ≡ value k) (sym is) (fill_by_more value list i false within before)
+    subst (λ (x : Bool). (k : ℕ) → k < i + 1 → get_or (set list i x) k false ≡ value k) (sym is)
+    (fill_by_more value list i false within before)

@@ -1,2 +1,5 @@
 pub mod Standing
 pub mod Loads
+pub mod Connections
+pub mod Surviving
+pub mod Examples

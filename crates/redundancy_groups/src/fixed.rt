@@ -3,7 +3,7 @@ ghost use Rattle.std.specs.Prelude.{◌≡◌, length};
 ghost use Rattle.wrench_geometry.specs.Wrenches.{IsPointWithin};
 ghost use Rattle.redundancy_groups.specs.Loads.{IsLoadWithin, levers_of, load_at, load_of, sum_of};
 
-use plant_model::limits::FARTHEST_LEVER;
+use plant_model::limits::{FARTHEST_LEVER, MOST_THRUSTERS};
 use plant_model::plant::Plant;
 use plant_model::thrust::Point;
 use plant_model::wrench::Load;
@@ -12,6 +12,9 @@ use thrust_region::Regions;
 /// What the components of the load of one thrust are within, whatever the thrust: the moment has
 /// two parts, each of the farthest lever and a number of 32 bits.
 pub const MOST_LOAD: i64 = 1 << 43;
+
+/// What the components of the load of all fixed thrusts are within, whatever these are.
+pub const MOST_FIXED_LOAD: i64 = MOST_THRUSTERS as i64 * MOST_LOAD;
 
 /// What the components of a load may be within where one is added.
 const MOST_TOTAL: i64 = 1 << 61;
@@ -22,7 +25,8 @@ const MOST_TOTAL: i64 = 1 << 61;
 pub fn fixed_load(plant: &Plant, regions: &Regions) -> Load
     requires lists { length regions.now.list.items ≡ length plant.now.thrusters.items }
     requires fixed { length regions.now.fixed.items ≡ length plant.now.thrusters.items }
-    ensures { result ≡ load_of (levers_of plant.now) regions.now.fixed.items }
+    ensures value { result ≡ load_of (levers_of plant.now) regions.now.fixed.items }
+    ensures within { IsLoadWithin MOST_FIXED_LOAD result }
 {
     let thrusters = plant.parts().thrusters.as_slice();
     let fixed = regions.fixed.as_slice();

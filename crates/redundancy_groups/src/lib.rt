@@ -2,8 +2,16 @@
 //! then. Nothing here takes memory.
 #![tactic(auto)]
 
+mod exact;
+#[cfg(test)]
+mod example;
 mod fixed;
+mod regions;
 mod stands;
+#[cfg(test)]
+mod tests;
 
-pub use fixed::fixed_load;
+pub use exact::shares_are_exact;
+pub use fixed::{MOST_FIXED_LOAD, fixed_load};
+pub use regions::surviving;
 pub use stands::standing;

@@ -1,8 +1,11 @@
 -- Direction lists of the supports of lists: where the signs on the directions are kept, a greatest
 -- point stays greatest.
-use Rattle.std.proofs.Common.{◌≡◌, ℕ, ◌+◌, ◌*◌, ◌<◌, ◌≤◌, get_or, subst, ◌⊎◌, inl, inr, ℤ, pos, ◌+ℤ◌, ◌-ℤ◌, ◌*ℤ◌, neg_ℤ, ◌≤ℤ◌, ◌<ℤ◌, List, [], ◌∷◌, ◌++◌, refl, sym, ap, ap₂, ◌∙◌, arith}
+use Rattle.std.proofs.Common.{◌≡◌, ℕ, ◌+◌, ◌*◌, ◌<◌, ◌≤◌, get_or, subst, ◌⊎◌, inl, inr, ℤ, pos}
+use Rattle.std.proofs.Common.{◌+ℤ◌, ◌-ℤ◌, ◌*ℤ◌, neg_ℤ, ◌≤ℤ◌, ◌<ℤ◌, List, [], ◌∷◌, ◌++◌, refl, sym}
+use Rattle.std.proofs.Common.{ap, ap₂, ◌∙◌, arith}
 use Rattle.std.specs.Prelude.{All, Contains}
-use Rattle.std.proofs.lemmas.List.Elements.{Contains-append_left, All-contains, Contains-get_or, Contains-push_cases}
+use Rattle.std.proofs.lemmas.List.Elements.{Contains-append_left, All-contains, Contains-get_or}
+use Rattle.std.proofs.lemmas.List.Elements.{Contains-push_cases}
 use Rattle.std.proofs.Math.IntN.{*ℤ_comm}
 use Rattle.std.proofs.lemmas.Int.{by_lt_z}
 use Rattle.std.proofs.Math.Nat.{mul-le-mul_left}
@@ -10,10 +13,12 @@ use Rattle.int_ring.proofs.Laws.{linear}
 use Rattle.int_ring.proofs.Order.{cancel}
 use Rattle.int_ring.proofs.Ring.{ring, reads}
 use Rattle.wrench_geometry.specs.declared.vector.Vec3.{Vec3}
-use Rattle.wrench_geometry.specs.Vectors.{opposite_of, dot_of, difference_of, sum_of, zero_vector, greatest_of, support_of}
+use Rattle.wrench_geometry.specs.Vectors.{opposite_of, dot_of, difference_of, sum_of, zero_vector}
+use Rattle.wrench_geometry.specs.Vectors.{greatest_of, support_of}
 use Rattle.wrench_geometry.proofs.Bounds.{same_vector}
 use Rattle.wrench_geometry.proofs.Supports.{support_cons}
-use Rattle.separation.specs.Directions.{IsAlong, IsPoint, Keeps, KeepsSigns, Settles, SettlesDifferences, Spans}
+use Rattle.separation.specs.Directions.{IsAlong, IsPoint, Keeps, KeepsSigns, Settles}
+use Rattle.separation.specs.Directions.{SettlesDifferences, Spans}
 use Rattle.separation.proofs.Members.{among_head, among_tail, none_among}
 use Rattle.separation.proofs.Moves.{IsDirectionList, commutes, opposite_dot}
 use Rattle.separation.proofs.Normals.{Along, one_line, one_sign}

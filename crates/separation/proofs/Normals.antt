@@ -1,17 +1,21 @@
 -- Of each vector ahead of the demand, some cross product of two directions has a quotient that is
 -- at most its.
-use Rattle.std.proofs.Common.{◌≡◌, ◌≢◌, ◌⊎◌, inl, inr, zero, suc, ℤ, pos, negsuc, ◌+ℤ◌, ◌-ℤ◌, ◌*ℤ◌, neg_ℤ, ◌≤ℤ◌, ◌<ℤ◌, List, [], ◌∷◌, Bool, true, false, ◌&&◌, not, refl, sym, ap, ◌∙◌, arith}
+use Rattle.std.proofs.Common.{◌≡◌, ◌≢◌, ◌⊎◌, inl, inr, zero, suc, ℤ, pos, negsuc, ◌+ℤ◌, ◌-ℤ◌, ◌*ℤ◌}
+use Rattle.std.proofs.Common.{neg_ℤ, ◌≤ℤ◌, ◌<ℤ◌, List, [], ◌∷◌, Bool, true, false, ◌&&◌, not, refl}
+use Rattle.std.proofs.Common.{sym, ap, ◌∙◌, arith}
 use Rattle.std.proofs.lemmas.Int.{by_lt_z}
 use Rattle.std.proofs.Math.IntN.{*ℤ_comm}
 use Rattle.std.specs.Prelude.{Contains}
 use Rattle.int_ring.proofs.Laws.{linear, mul_zero, mul_neg, square_nonneg, mul_nonneg, mul_pos}
-use Rattle.int_ring.proofs.Order.{cancel_le, fraction_le_trans, pos_of_mul_pos, nonneg_of_mul_nonneg, zero_factor}
+use Rattle.int_ring.proofs.Order.{cancel_le, fraction_le_trans, pos_of_mul_pos}
+use Rattle.int_ring.proofs.Order.{nonneg_of_mul_nonneg, zero_factor}
 use Rattle.int_ring.proofs.Ring.{ring, reads}
 use Rattle.wrench_geometry.specs.declared.vector.Vec3.{Vec3}
 use Rattle.wrench_geometry.specs.Vectors.{opposite_of, dot_of, cross_of}
 use Rattle.separation.specs.Directions.{Keeps, KeepsSigns}
 use Rattle.separation.proofs.Members.{some_or_none}
-use Rattle.separation.proofs.Moves.{keeps_same, IsDirectionList, Reached, move, opposite_dot, commutes}
+use Rattle.separation.proofs.Moves.{keeps_same, IsDirectionList, Reached, move, opposite_dot}
+use Rattle.separation.proofs.Moves.{commutes}
 
 -- ---- a wall that x crosses, where one may be there already
 

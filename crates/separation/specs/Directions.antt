@@ -1,7 +1,8 @@
 -- What lists of directions say of how far sums reach.
 use Rattle.std.specs.Prelude.{◌≡◌, ℤ, pos, ◌≤ℤ◌, ◌<ℤ◌, ◌⊎◌, List, Contains}
 use Rattle.wrench_geometry.specs.declared.vector.Vec3.{Vec3}
-use Rattle.wrench_geometry.specs.Vectors.{IsVectorWithin, cross_of, difference_of, dot_of, zero_vector}
+use Rattle.wrench_geometry.specs.Vectors.{IsVectorWithin, cross_of, difference_of, dot_of}
+use Rattle.wrench_geometry.specs.Vectors.{zero_vector}
 use Rattle.separation.specs.declared.directions.TheConstants.{DIRECTION_FORCE, DIRECTION_MOMENT}
 
 -- the vector is within the bounds of a difference of two images

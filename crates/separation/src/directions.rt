@@ -1,8 +1,10 @@
 //! The directions of which each two have a candidate for a least cut as their normal.
-ghost use Rattle.std.specs.Prelude.{◌≡◌, ◌+◌, ◌*◌, ◌<◌, ◌≤◌, ◌∷◌, [], ◌++◌, All, ◌↔◌, Contains, IsTrue, length};
+ghost use Rattle.std.specs.Prelude.{◌≡◌, ◌+◌, ◌*◌, ◌<◌, ◌≤◌, ◌∷◌, [], ◌++◌, All, ◌↔◌, Contains};
+ghost use Rattle.std.specs.Prelude.{IsTrue, length};
 ghost use Rattle.wrench_geometry.specs.Vectors.{difference_of};
 ghost use Rattle.wrench_geometry.specs.Wrenches.{AreImages, IsImage};
-ghost use Rattle.separation.specs.Directions.{IsAlong, IsDirection, Settles, SettlesDifferences, Spans};
+ghost use Rattle.separation.specs.Directions.{IsAlong, IsDirection, Settles, SettlesDifferences};
+ghost use Rattle.separation.specs.Directions.{Spans};
 
 use arrayvec::ArrayVec;
 use plant_model::limits::{MOST_PIECE_POINTS, MOST_THRUST, MOST_THRUSTERS};

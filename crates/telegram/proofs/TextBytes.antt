@@ -1,5 +1,6 @@
 -- The bytes of the fields of telegrams.
-use Rattle.std.proofs.Common.{◌≡◌, ℕ, zero, suc, ◌^◌, ◌≤◌, ◌<◌, List, [], ◌∷◌, ◌++◌, length, Bool, true, false, ◌==◌, not, ◌&&◌, ℤ, pos, negsuc, refl, w64, arith}
+use Rattle.std.proofs.Common.{◌≡◌, ℕ, suc, ◌^◌, ◌≤◌, ◌<◌, List, [], ◌∷◌}
+use Rattle.std.proofs.Common.{true, false, ◌==◌, not, ◌&&◌, ℤ, pos, negsuc, refl, w64, arith}
 use Rattle.std.proofs.lemmas.Bool.Decides.{nat_tests}
 use Rattle.std.proofs.lemmas.Fmt.{decimal_is_IsNumeral}
 use Rattle.std.proofs.lemmas.List.Elements.{All-nil, All-cons}
@@ -20,7 +21,8 @@ pub record IsPlain (field : List ℕ) : Type 0 where
 plain-nil : IsPlain []
 plain-nil = record { body = refl; no_comma = All-nil (λ b. (b == comma) ≡ false) }
 
-plain-cons : (b : ℕ) (bs : List ℕ) → is_body_byte b ≡ true → (b == comma) ≡ false → IsPlain bs → IsPlain (b ∷ bs)
+plain-cons : (b : ℕ) (bs : List ℕ) → is_body_byte b ≡ true → (b == comma) ≡ false → IsPlain bs
+    → IsPlain (b ∷ bs)
 plain-cons b bs good apart plain =
     let others = plain.body in
     record {
@@ -34,14 +36,16 @@ plain-from_digits (b ∷ bs) each =
     let here = digit_from_value b each.0 in
     let low : 48 ≤ b = here.0 in
     let high : b ≤ 57 = here.1 in
-    plain-cons b bs (grind (arith, nat_tests)) (grind (arith, nat_tests)) (plain-from_digits bs each.1)
+    plain-cons b bs (grind (arith, nat_tests)) (grind (arith, nat_tests))
+    (plain-from_digits bs each.1)
 
 pub plain-decimal : (n : ℕ) → n < 2 ^ 64 → IsPlain (decimal n)
 plain-decimal n small = plain-from_digits (decimal n) (decimal_is_IsNumeral n small).0.1
 
 pub plain-signed_decimal : (z : ℤ) → nat_abs z < 2 ^ 64 → IsPlain (signed_decimal z)
 plain-signed_decimal (pos n) small = plain-decimal n small
-plain-signed_decimal (negsuc n) small = plain-cons 45 (decimal (suc n)) refl refl (plain-decimal (suc n) small)
+plain-signed_decimal (negsuc n) small =
+    plain-cons 45 (decimal (suc n)) refl refl (plain-decimal (suc n) small)
 
 -- the same of a number of 64 bits
 pub plain-fitting : (z : ℤ) → FitsSigned w64 z → IsPlain (signed_decimal z)
@@ -53,7 +57,8 @@ plain-from_name_bytes [] each = plain-nil
 plain-from_name_bytes (b ∷ bs) each =
     let first : is_name_byte b ≡ true = grind (arith, nat_tests) in
     let others : list_all is_name_byte bs ≡ true = grind (arith, nat_tests) in
-    plain-cons b bs (name_byte-body b first) (name_byte-apart b first) (plain-from_name_bytes bs others)
+    plain-cons b bs (name_byte-body b first) (name_byte-apart b first)
+    (plain-from_name_bytes bs others)
   where
     name_byte-body : (b : ℕ) → is_name_byte b ≡ true → is_body_byte b ≡ true
     name_byte-body b good = grind (arith, nat_tests)
@@ -67,10 +72,12 @@ plain-name name good =
     plain-from_name_bytes name each
 
 -- the same of bytes that are known
-pub plain-known : (field : List ℕ) → list_all (λ b. is_body_byte b && not (b == comma)) field ≡ true → IsPlain field
+pub plain-known : (field : List ℕ) → list_all (λ b. is_body_byte b && not (b == comma)) field ≡ true
+    → IsPlain field
 plain-known [] each = plain-nil
 plain-known (b ∷ bs) each =
     let good : is_body_byte b ≡ true = grind (arith, nat_tests) in
     let apart : (b == comma) ≡ false = grind (arith, nat_tests) in
-    let others : list_all (λ b. is_body_byte b && not (b == comma)) bs ≡ true = grind (arith, nat_tests) in
+    let others : list_all (λ b. is_body_byte b && not (b == comma)) bs ≡ true =
+    grind (arith, nat_tests) in
     plain-cons b bs good apart (plain-known bs others)

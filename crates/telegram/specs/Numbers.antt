@@ -1,5 +1,6 @@
 -- How a number is spelled in a field, and which number it is.
-use Rattle.std.specs.Prelude.{ℕ, ℤ, List, [], ◌∷◌, length, Bool, true, false, not, ◌&&◌, ◌||◌, ◌==◌, nat_le, int_le, ◌≤ℤ◌, slice_index, Result, Ok, Err, if◌then◌else◌}
+use Rattle.std.specs.Prelude.{ℕ, ℤ, List, [], ◌∷◌, length, Bool, false, not, ◌&&◌, ◌||◌, ◌==◌}
+use Rattle.std.specs.Prelude.{nat_le, int_le, ◌≤ℤ◌, slice_index, Result, Ok, Err, if◌then◌else◌}
 use Rattle.std.specs.List.{list_all}
 use Rattle.std.specs.Str.Parse.{signed_digits_value}
 use Rattle.telegram.specs.declared.telegram.Reject.{Reject}
@@ -25,13 +26,16 @@ is_natural digits = nat_le 1 (length digits) && is_led_well digits && list_all i
 -- `0`, or an optional `-` and digits of which the first is not 0
 abbrev pub is_number : List ℕ → Bool
 is_number [] = false
-is_number (b ∷ bs) = if b == minus then is_natural bs && not (slice_index bs 0 == zero_digit) else is_natural (b ∷ bs)
+is_number (b ∷ bs) =
+    if b == minus then is_natural bs && not (slice_index bs 0 == zero_digit)
+    else is_natural (b ∷ bs)
 
 -- the number that a field spells, where it lies from low to high
 abbrev pub number_of : List ℕ → ℤ → ℤ → Result ℤ Reject
 number_of field low high =
     let value = signed_digits_value 10 field in
-    if is_number field then (if int_le low value && int_le value high then Ok value else Err Range) else Err Number
+    if is_number field then (if int_le low value && int_le value high then Ok value else Err Range)
+    else Err Number
 
 -- the number lies from low to high
 pub record IsFromTo (low high z : ℤ) : Type 0 where

@@ -1,5 +1,7 @@
 -- What the body of a frame says, and how a telegram is spelled.
-use Rattle.std.specs.Prelude.{ℕ, ℤ, pos, negsuc, neg_ℤ, nat_abs, ◌-◌, ◌≤◌, List, [], ◌∷◌, length, Bool, true, false, ◌==◌, Option, Some, None, Result, Ok, Err, if◌then◌else◌, IsTrue, codes, decimal}
+use Rattle.std.specs.Prelude.{ℕ, ℤ, pos, neg_ℤ, nat_abs, ◌-◌, ◌≤◌, List, [], ◌∷◌}
+use Rattle.std.specs.Prelude.{Bool, true, false, ◌==◌, Option, Some, None, Result, Ok, Err}
+use Rattle.std.specs.Prelude.{if◌then◌else◌, IsTrue, codes, decimal}
 use Rattle.std.specs.Borrow.{Bor}
 use Rattle.std.specs.Fmt.{signed_decimal}
 use Rattle.std.specs.List.{slice_split, join_with_byte}
@@ -7,9 +9,13 @@ use Rattle.std.specs.Str.{bytes_eq}
 use Rattle.plant_model.specs.Names.{is_name}
 use Rattle.plant_model.specs.Numbers.{IsWithin}
 use Rattle.plant_model.specs.Versions.{IsDemand}
-use Rattle.plant_model.specs.declared.limits.TheConstants.{LAST_ALARM, LAST_MOMENT, MOST_FORCE, MOST_MOMENT, MOST_PIECES, MOST_POSITION, MOST_WIND_SPEED, WHOLE_TURN}
+use Rattle.plant_model.specs.declared.limits.TheConstants.{LAST_ALARM, LAST_MOMENT, MOST_FORCE}
+use Rattle.plant_model.specs.declared.limits.TheConstants.{MOST_MOMENT, MOST_PIECES, MOST_POSITION}
+use Rattle.plant_model.specs.declared.limits.TheConstants.{MOST_WIND_SPEED, WHOLE_TURN}
 use Rattle.telegram.specs.declared.telegram.Telegram.{Telegram}
-use Rattle.telegram.specs.declared.telegram.Telegram.TheVariants.{Position, Wind, Setpoint, Thruster, Generator, Tie, Mode, Manual, Ack, Board, Bar}
+use Rattle.telegram.specs.declared.telegram.Telegram.TheVariants.{Position, Wind, Setpoint}
+use Rattle.telegram.specs.declared.telegram.Telegram.TheVariants.{Thruster, Generator, Tie, Mode}
+use Rattle.telegram.specs.declared.telegram.Telegram.TheVariants.{Manual, Ack, Board, Bar}
 use Rattle.telegram.specs.declared.telegram.Reject.{Reject}
 use Rattle.telegram.specs.declared.telegram.Reject.TheVariants.{Kind, Count, Number, Range, Word}
 use Rattle.telegram.specs.Numbers.{number_of}
@@ -59,7 +65,8 @@ name_of field = if is_name field then Ok field else Err Word
 
 -- one of two words, of which the first says that it is so
 abbrev pub word_of : List ℕ → List ℕ → List ℕ → Result Bool Reject
-word_of on off field = if bytes_eq field on then Ok true else (if bytes_eq field off then Ok false else Err Word)
+word_of on off field =
+    if bytes_eq field on then Ok true else (if bytes_eq field off then Ok false else Err Word)
 
 -- ---- so many fields, taken from left to right
 
@@ -75,11 +82,13 @@ abbrev pub two : (List ℕ → List ℕ → Result Telegram Reject) → List (Li
 two read [] = Err Count
 two read (a ∷ more) = one (read a) more
 
-abbrev pub three : (List ℕ → List ℕ → List ℕ → Result Telegram Reject) → List (List ℕ) → Result Telegram Reject
+abbrev pub three : (List ℕ → List ℕ → List ℕ → Result Telegram Reject) → List (List ℕ)
+    → Result Telegram Reject
 three read [] = Err Count
 three read (a ∷ more) = two (read a) more
 
-abbrev pub four : (List ℕ → List ℕ → List ℕ → List ℕ → Result Telegram Reject) → List (List ℕ) → Result Telegram Reject
+abbrev pub four : (List ℕ → List ℕ → List ℕ → List ℕ → Result Telegram Reject) → List (List ℕ)
+    → Result Telegram Reject
 four read [] = Err Count
 four read (a ∷ more) = three (read a) more
 
@@ -108,11 +117,13 @@ setpoint_of x y h = do
   Ok (Setpoint north east heading)
 
 -- what is made of a name and a value
-abbrev pub made : (List ℕ → Bool → Telegram) → Result (List ℕ × Bool) Reject → Result Telegram Reject
+abbrev pub made : (List ℕ → Bool → Telegram) → Result (List ℕ × Bool) Reject
+    → Result Telegram Reject
 made make read = read >>= λ found. Ok (make found.0 found.1)
 
 -- a switch of a part: its name, and one of two words
-abbrev pub switch_of : (List ℕ → Bool → Telegram) → List ℕ → List ℕ → List ℕ → List ℕ → Result Telegram Reject
+abbrev pub switch_of : (List ℕ → Bool → Telegram) → List ℕ → List ℕ → List ℕ → List ℕ
+    → Result Telegram Reject
 switch_of make on off n w = do
   name ← name_of n
   value ← word_of on off w
@@ -165,9 +176,11 @@ forms =
 -- what the form with this kind reads, or `Kind` where there is none
 abbrev pub read_by : List Form → List ℕ → List (List ℕ) → Result Telegram Reject
 read_by [] kind rest = Err Kind
-read_by (form ∷ others) kind rest = if bytes_eq kind form.kind then form.read rest else read_by others kind rest
+read_by (form ∷ others) kind rest =
+    if bytes_eq kind form.kind then form.read rest else read_by others kind rest
 
--- the telegram of these fields, or the first refusal: the kind, the number of fields, and then each field
+-- the telegram of these fields, or the first refusal: of the kind, of the number of fields, and
+-- then of each field
 abbrev pub telegram_of : List (List ℕ) → Result Telegram Reject
 telegram_of [] = Err Kind
 telegram_of (kind ∷ rest) = read_by forms kind rest
@@ -180,17 +193,25 @@ telegram body = telegram_of (fields body)
 
 -- the fields of a telegram
 abbrev pub parts_of : Telegram → List (List ℕ)
-parts_of (Position moment x y heading) = codes "POS" ∷ decimal moment ∷ signed_decimal x ∷ signed_decimal y ∷ decimal heading ∷ []
-parts_of (Wind moment speed angle) = codes "WND" ∷ decimal moment ∷ decimal speed ∷ decimal angle ∷ []
-parts_of (Setpoint x y heading) = codes "SET" ∷ signed_decimal x ∷ signed_decimal y ∷ decimal heading ∷ []
-parts_of (Thruster name selected) = codes "THR" ∷ name ∷ (if selected then codes "IN" else codes "OUT") ∷ []
-parts_of (Generator name running) = codes "GEN" ∷ name ∷ (if running then codes "RUN" else codes "STOP") ∷ []
-parts_of (Tie name closed) = codes "TIE" ∷ name ∷ (if closed then codes "CLOSE" else codes "OPEN") ∷ []
+parts_of (Position moment x y heading) =
+    codes "POS" ∷ decimal moment ∷ signed_decimal x ∷ signed_decimal y ∷ decimal heading ∷ []
+parts_of (Wind moment speed angle) =
+    codes "WND" ∷ decimal moment ∷ decimal speed ∷ decimal angle ∷ []
+parts_of (Setpoint x y heading) =
+    codes "SET" ∷ signed_decimal x ∷ signed_decimal y ∷ decimal heading ∷ []
+parts_of (Thruster name selected) =
+    codes "THR" ∷ name ∷ (if selected then codes "IN" else codes "OUT") ∷ []
+parts_of (Generator name running) =
+    codes "GEN" ∷ name ∷ (if running then codes "RUN" else codes "STOP") ∷ []
+parts_of (Tie name closed) =
+    codes "TIE" ∷ name ∷ (if closed then codes "CLOSE" else codes "OPEN") ∷ []
 parts_of (Mode manual) = codes "MOD" ∷ (if manual then codes "MANUAL" else codes "AUTO") ∷ []
-parts_of (Manual demand) = codes "MAN" ∷ signed_decimal demand.x ∷ signed_decimal demand.y ∷ signed_decimal demand.n ∷ []
+parts_of (Manual demand) =
+    codes "MAN" ∷ signed_decimal demand.x ∷ signed_decimal demand.y ∷ signed_decimal demand.n ∷ []
 parts_of (Ack number) = codes "ACK" ∷ decimal number ∷ []
 parts_of Board = codes "BRD" ∷ []
-parts_of (Bar name piece barred) = codes "BAR" ∷ name ∷ decimal piece ∷ (if barred then codes "BAR" else codes "FREE") ∷ []
+parts_of (Bar name piece barred) =
+    codes "BAR" ∷ name ∷ decimal piece ∷ (if barred then codes "BAR" else codes "FREE") ∷ []
 
 -- the body of a telegram
 abbrev pub telegram_text : Telegram → List ℕ

@@ -1,7 +1,7 @@
 //! Telegrams: what the bodies of frames say, and how they are spelled.
 //!
-//! A body is a list of fields between commas, of which the first says the kind. A number is `0`, or an optional `-`,
-//! a digit from 1 to 9 and further digits. Nothing here takes memory.
+//! A body is a list of fields between commas, of which the first says the kind. A number is `0`, or
+//! an optional `-`, a digit from 1 to 9 and further digits. Nothing here takes memory.
 #![tactic(auto)]
 
 mod numbers;

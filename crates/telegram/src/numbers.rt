@@ -1,6 +1,7 @@
 //! Numbers in fields.
 ghost use Rattle.std.specs.Prelude.{◌≡◌, ◌≤◌, length, IfOk};
-ghost use Rattle.telegram.specs.Numbers.{is_digit, is_led_well, is_natural, is_number, number_of, IsFromTo};
+ghost use Rattle.telegram.specs.Numbers.{is_digit, is_led_well, is_natural, is_number, number_of};
+ghost use Rattle.telegram.specs.Numbers.{IsFromTo};
 
 use crate::telegram::Reject;
 use std::str;
@@ -35,8 +36,9 @@ fn is_number(field: &[u8]) -> bool
     }
 }
 
-/// The number that a field spells, from `low` to `high`. It is `Number` exactly where the field isn't spelled as a
-/// number, and `Range` exactly where its value, however long, is out of the range.
+/// The number that a field spells, from `low` to `high`. It is `Number` exactly where the field
+/// isn't spelled as a number, and `Range` exactly where its value, however long, is out of the
+/// range.
 pub fn number(field: &[u8], low: i64, high: i64) -> Result<i64, Reject>
     ensures value { result ≡ number_of field.now low high }
     ensures within { IfOk result (λ z. IsFromTo low high z) }

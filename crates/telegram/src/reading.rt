@@ -1,7 +1,11 @@
 //! From bodies to telegrams.
-ghost use Rattle.std.specs.Prelude.{◌≡◌, ◌≤◌, ◌≤ℤ◌, ◌∷◌, [], pos, ℕ, List, Bool, Result, Ok, Err, MatchResult};
+ghost use Rattle.std.specs.Prelude.{◌≡◌, ◌≤◌, ◌≤ℤ◌, ◌∷◌, [], pos, ℕ, List, Bool, Result, Ok, Err};
+ghost use Rattle.std.specs.Prelude.{MatchResult};
 ghost use Rattle.telegram.specs.Numbers.{number_of};
-ghost use Rattle.telegram.specs.Telegrams.{telegram, made, fields, fields_left, natural_of, moment_of, angle_of, name_of, word_of, none, one, two, three, four, position_of, wind_of, setpoint_of, switch_of, mode_of, manual_of, ack_of, bar_of};
+ghost use Rattle.telegram.specs.Telegrams.{telegram, made, fields, fields_left, natural_of};
+ghost use Rattle.telegram.specs.Telegrams.{moment_of, angle_of, name_of, word_of, none, one, two};
+ghost use Rattle.telegram.specs.Telegrams.{three, four, position_of, wind_of, setpoint_of};
+ghost use Rattle.telegram.specs.Telegrams.{switch_of, mode_of, manual_of, ack_of, bar_of};
 ghost use Rattle.telegram.specs.declared.telegram.Reject.{Reject};
 ghost use Rattle.telegram.specs.declared.telegram.Telegram.{Telegram};
 ghost use Rattle.telegram.specs.declared.telegram.Telegram.TheVariants.{Board};
@@ -39,7 +43,8 @@ fn no_field(rest: Option<&str>) -> Result<(), Reject>
 
 fn one_field(rest: Option<&str>) -> Result<&str, Reject>
     ensures { MatchResult result (λ field. fields_left rest.entry ≡ field.now ∷ [])
-        (λ e. (read : List ℕ → Result Telegram Reject) → one read (fields_left rest.entry) ≡ Err e) }
+        (λ e. (read : List ℕ → Result Telegram Reject)
+        → one read (fields_left rest.entry) ≡ Err e) }
 {
     let (field, rest) = first_field(rest.ok_or(Reject::Count)?);
     no_field(rest)?;
@@ -48,7 +53,8 @@ fn one_field(rest: Option<&str>) -> Result<&str, Reject>
 
 fn two_fields(rest: Option<&str>) -> Result<(&str, &str), Reject>
     ensures { MatchResult result (λ f. fields_left rest.entry ≡ f.0.now ∷ f.1.now ∷ [])
-        (λ e. (read : List ℕ → List ℕ → Result Telegram Reject) → two read (fields_left rest.entry) ≡ Err e) }
+        (λ e. (read : List ℕ → List ℕ → Result Telegram Reject)
+        → two read (fields_left rest.entry) ≡ Err e) }
 {
     let (first, rest) = first_field(rest.ok_or(Reject::Count)?);
     let second = one_field(rest)?;
@@ -57,7 +63,8 @@ fn two_fields(rest: Option<&str>) -> Result<(&str, &str), Reject>
 
 fn three_fields(rest: Option<&str>) -> Result<(&str, &str, &str), Reject>
     ensures { MatchResult result (λ f. fields_left rest.entry ≡ f.0.now ∷ f.1.now ∷ f.2.now ∷ [])
-        (λ e. (read : List ℕ → List ℕ → List ℕ → Result Telegram Reject) → three read (fields_left rest.entry) ≡ Err e) }
+        (λ e. (read : List ℕ → List ℕ → List ℕ → Result Telegram Reject)
+        → three read (fields_left rest.entry) ≡ Err e) }
 {
     let (first, rest) = first_field(rest.ok_or(Reject::Count)?);
     let (second, third) = two_fields(rest)?;
@@ -65,8 +72,10 @@ fn three_fields(rest: Option<&str>) -> Result<(&str, &str, &str), Reject>
 }
 
 fn four_fields(rest: Option<&str>) -> Result<(&str, &str, &str, &str), Reject>
-    ensures { MatchResult result (λ f. fields_left rest.entry ≡ f.0.now ∷ f.1.now ∷ f.2.now ∷ f.3.now ∷ [])
-        (λ e. (read : List ℕ → List ℕ → List ℕ → List ℕ → Result Telegram Reject) → four read (fields_left rest.entry) ≡ Err e) }
+    ensures { MatchResult result
+        (λ f. fields_left rest.entry ≡ f.0.now ∷ f.1.now ∷ f.2.now ∷ f.3.now ∷ [])
+        (λ e. (read : List ℕ → List ℕ → List ℕ → List ℕ → Result Telegram Reject)
+        → four read (fields_left rest.entry) ≡ Err e) }
 {
     let (first, rest) = first_field(rest.ok_or(Reject::Count)?);
     let (second, third, fourth) = three_fields(rest)?;
@@ -218,9 +227,9 @@ fn bar(rest: Option<&str>) -> Result<Telegram, Reject>
 
 /// The telegram of a body.
 ///
-/// The refusal is the first in this order: `Kind` where the first field is no telegram's, `Count` for another number
-/// of fields, and then the fields from left to right: `Number` and `Range` as [`number`] says, and `Word` for a field
-/// that is no name or no word of the telegram.
+/// The refusal is the first in this order: `Kind` where the first field is no telegram's, `Count`
+/// for another number of fields, and then the fields from left to right: `Number` and `Range` as
+/// [`number`] says, and `Word` for a field that is no name or no word of the telegram.
 pub fn read(body: &Body) -> Result<Telegram, Reject>
     ensures { result ≡ telegram body.now }
 {

@@ -5,7 +5,8 @@ ghost use Rattle.telegram.specs.Telegrams.{reject_number};
 use plant_model::name::Name;
 use plant_model::wrench::Wrench;
 
-/// What a telegram says. Moments are in ms, positions in cm, angles in centidegrees, and wind speeds in dm/s.
+/// What a telegram says. Moments are in ms, positions in cm, angles in centidegrees, and wind
+/// speeds in dm/s.
 #[derive(Debug, PartialEq, Eq, Drop)]
 pub enum Telegram {
     /// Where the vessel is: to the north and to the east of the origin, and its heading.

@@ -165,8 +165,8 @@ pub fn write(telegram: &Telegram) -> Body
     }
 }
 
-/// Reading and writing are exact: each telegram within its ranges is read of its own text, and of no other body; and
-/// what is read of any body is within its ranges.
+/// Reading and writing are exact: each telegram within its ranges is read of its own text, and of
+/// no other body; and what is read of any body is within its ranges.
 pub fn telegrams_are_exact()
     ensures own_text { IsReadOfItsText }
     ensures no_other { IsReadOfNoOther }

@@ -1,5 +1,6 @@
 -- A thrust that lies in a part of a piece lies in the piece.
-use Rattle.std.proofs.Common.{◌≡◌, ◌∙◌, ap, ap₂, sym, refl, ℕ, zero, suc, ◌+◌, ℤ, pos, ◌+ℤ◌, ◌*ℤ◌, List, [], ◌∷◌, length, take, drop, arith}
+use Rattle.std.proofs.Common.{◌≡◌, ◌∙◌, ap, ap₂, sym, refl, ℕ, zero, suc, ◌+◌, ℤ, pos, ◌+ℤ◌, ◌*ℤ◌}
+use Rattle.std.proofs.Common.{List, [], ◌∷◌, length, take, drop, arith}
 use Rattle.std.specs.Prelude.{sum}
 use Rattle.std.proofs.lemmas.List.Sums.{sum_by-cons}
 use Rattle.int_ring.proofs.Laws.{linear, zero_mul}
@@ -38,7 +39,9 @@ no_weights (p ∷ ps) =
       across = no_more p.y (weighted_y others.weights ps) others.across;
     }
 
-at_front : (part piece : List Point) (us : List ℕ) → length us ≡ length part → take (length part) piece ≡ part → Weights piece (sum us) (weighted_x us part) (weighted_y us part)
+at_front : (part piece : List Point) (us : List ℕ) → length us ≡ length part
+    → take (length part) piece ≡ part
+    → Weights piece (sum us) (weighted_x us part) (weighted_y us part)
 at_front [] piece [] same is = no_weights piece
 at_front [] piece (u ∷ us) same is = absurd (omega arith)
 at_front (q ∷ qs) piece [] same is = absurd (omega arith)
@@ -56,7 +59,9 @@ at_front (q ∷ qs) (p ∷ ps) (u ∷ us) same is =
       across = ap₂ (λ (r : Point) (z : ℤ). pos u *ℤ r.y +ℤ z) head others.across;
     }
 
-at_place : (part piece : List Point) (from : ℕ) (us : List ℕ) → length us ≡ length part → take (length part) (drop from piece) ≡ part → Weights piece (sum us) (weighted_x us part) (weighted_y us part)
+at_place : (part piece : List Point) (from : ℕ) (us : List ℕ) → length us ≡ length part
+    → take (length part) (drop from piece) ≡ part
+    → Weights piece (sum us) (weighted_x us part) (weighted_y us part)
 at_place part piece zero us same is = at_front part piece us same is
 at_place part [] (suc from) us same is = at_front part [] us same is
 at_place part (p ∷ ps) (suc from) us same is =
@@ -70,7 +75,8 @@ at_place part (p ∷ ps) (suc from) us same is =
       across = skip p.y (weighted_y others.weights ps) (weighted_y us part) others.across;
     }
 
-pub lies_in_whole : (part piece : List Point) (thrust : Thrust) (q : ℤ) → LiesIn part thrust q → HasPart part piece → LiesIn piece thrust q
+pub lies_in_whole : (part piece : List Point) (thrust : Thrust) (q : ℤ) → LiesIn part thrust q
+    → HasPart part piece → LiesIn piece thrust q
 lies_in_whole part piece thrust q lies has =
     let w = at_place part piece has.from lies.weights lies.one_each has.is in
     record {

@@ -1,7 +1,9 @@
 //! Rings cut into pieces.
-ghost use Rattle.std.specs.Prelude.{◌≡◌, ◌+◌, ◌<◌, ◌≤◌, ◌++◌, [], ◌∷◌, pos, int_le, map, length, ◌==◌, ◌≢◌, IsTrue};
+ghost use Rattle.std.specs.Prelude.{◌≡◌, ◌+◌, ◌<◌, ◌≤◌, ◌++◌, [], ◌∷◌, pos, int_le, map, length};
+ghost use Rattle.std.specs.Prelude.{◌==◌, ◌≢◌, IsTrue};
 ghost use Rattle.std.specs.List.{list_any};
-ghost use Rattle.plant_model.specs.Rings.{cross, cut, first_wedge, is_ring, are_sectors, point_at, run_from, wedges};
+ghost use Rattle.plant_model.specs.Rings.{cross, cut, first_wedge, is_ring, are_sectors, point_at};
+ghost use Rattle.plant_model.specs.Rings.{run_from, wedges};
 ghost use Rattle.thrust_region.specs.Pieces.{points_of, all_points};
 ghost use Rattle.plant_model.specs.declared.limits.TheConstants.{MOST_PIECES};
 

@@ -3,7 +3,8 @@ ghost use Rattle.std.specs.Prelude.{◌≡◌, ◌≤◌, map, IsTrue};
 ghost use Rattle.std.specs.List.{list_all};
 ghost use Rattle.plant_model.specs.Rings.{is_ring_point, is_thrust_coordinate};
 ghost use Rattle.thrust_region.specs.Pieces.{points_of, all_points, is_thrust, are_thrusts};
-ghost use Rattle.thrust_region.specs.Scaling.{quarter_of, scaled_point, scaled_points, are_whole_points};
+ghost use Rattle.thrust_region.specs.Scaling.{quarter_of, scaled_point, scaled_points};
+ghost use Rattle.thrust_region.specs.Scaling.{are_whole_points};
 
 use plant_model::limits::QUARTERS;
 use plant_model::thrust::{Piece, Pieces, Point};

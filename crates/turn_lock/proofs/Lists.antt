@@ -1,5 +1,7 @@
 -- Fronts of lists, a caller's entries in them, sums over them and numbers that differ.
-use Rattle.std.proofs.Common.{◌≡◌, ℕ, zero, suc, ◌+◌, ◌<◌, ◌≤◌, ◌≢◌, ◌==◌, ◌⊎◌, Bool, true, false, List, [], ◌∷◌, ◌++◌, length, set, refl, ap, sym, subst, ◌∙◌, arith, append_assoc, length-append, ⊎_elim, inl, inr}
+use Rattle.std.proofs.Common.{◌≡◌, ℕ, zero, suc, ◌+◌, ◌<◌, ◌≤◌, ◌≢◌, ◌==◌, ◌⊎◌, Bool, true, false}
+use Rattle.std.proofs.Common.{List, [], ◌∷◌, ◌++◌, length, set, refl, ap, sym, subst, ◌∙◌, arith}
+use Rattle.std.proofs.Common.{append_assoc, length-append, ⊎_elim, inl, inr}
 use Rattle.std.specs.List.{All, filter}
 use Rattle.std.proofs.lemmas.List.{append-nil}
 use Rattle.std.proofs.lemmas.List.Elements.{filter-append}
@@ -19,13 +21,15 @@ module _ {A : Type 0} where
   prefix_nil xs = (xs, refl)
 
   pub prefix_trans : (xs ys zs : List A) → IsPrefix xs ys → IsPrefix ys zs → IsPrefix xs zs
-  prefix_trans xs ys zs p q = (p.0 ++ q.0, sym (append_assoc xs p.0 q.0) ∙ (ap (λ w. w ++ q.0) p.1 ∙ q.1))
+  prefix_trans xs ys zs p q =
+      (p.0 ++ q.0, sym (append_assoc xs p.0 q.0) ∙ (ap (λ w. w ++ q.0) p.1 ∙ q.1))
 
   pub prefix_snoc : (xs ys : List A) (a : A) → IsPrefix xs ys → IsPrefix xs (ys ++ a ∷ [])
   prefix_snoc xs ys a p = prefix_trans xs ys (ys ++ a ∷ []) p (a ∷ [], refl)
 
   -- of two fronts of one list the shorter begins the longer
-  pub prefix_shorter : (xs ys zs : List A) → IsPrefix xs zs → IsPrefix ys zs → length xs ≤ length ys → IsPrefix xs ys
+  pub prefix_shorter : (xs ys zs : List A) → IsPrefix xs zs → IsPrefix ys zs → length xs ≤ length ys
+      → IsPrefix xs ys
   prefix_shorter [] ys zs p q le = (ys, refl)
   prefix_shorter (x ∷ xs) [] zs p q le = absurd (omega arith)
   prefix_shorter (x ∷ xs) (y ∷ ys) [] p q le = absurd (cc (p.1))
@@ -51,7 +55,9 @@ module _ {A : Type 0} where
     pub that : IsPrefix ys zs
     pub whole : IsPrefix zs log
 
-  longer_by : (log xs ys : List A) → IsPrefix xs log → IsPrefix ys log → (b : Bool) → Rattle.std.specs.Prelude.nat_le (length ys) (length xs) ≡ b → IsLonger log xs ys (Rattle.std.specs.Prelude.if◌then◌else◌ b xs ys)
+  longer_by : (log xs ys : List A) → IsPrefix xs log → IsPrefix ys log → (b : Bool)
+      → Rattle.std.specs.Prelude.nat_le (length ys) (length xs) ≡ b
+      → IsLonger log xs ys (Rattle.std.specs.Prelude.if◌then◌else◌ b xs ys)
   longer_by log xs ys p q true is = record {
     this = prefix_self xs;
     that = prefix_shorter ys xs log q p (grind (arith, nat_tests));
@@ -63,8 +69,10 @@ module _ {A : Type 0} where
     whole = q;
   }
 
-  pub longer_is : (log xs ys : List A) → IsPrefix xs log → IsPrefix ys log → IsLonger log xs ys (longer xs ys)
-  longer_is log xs ys p q = longer_by log xs ys p q (Rattle.std.specs.Prelude.nat_le (length ys) (length xs)) refl
+  pub longer_is : (log xs ys : List A) → IsPrefix xs log → IsPrefix ys log
+      → IsLonger log xs ys (longer xs ys)
+  longer_is log xs ys p q =
+      longer_by log xs ys p q (Rattle.std.specs.Prelude.nat_le (length ys) (length xs)) refl
 
   -- where one of them is the whole, so is the longer
   pub prefix_both : (xs ys : List A) → IsPrefix xs ys → IsPrefix ys xs → xs ≡ ys
@@ -92,13 +100,17 @@ module _ {E : Type 0} (caller_of : E → ℕ) where
 
   none_left : (xs ys zs : List E) → (xs ++ ys) ++ zs ≡ xs → ys ≡ []
   none_left xs [] zs e = refl
-  none_left xs (y ∷ ys) zs e = let n = ap length e in let l = length-append (xs ++ y ∷ ys) zs in let m = length-append xs (y ∷ ys) in absurd (omega arith)
+  none_left xs (y ∷ ys) zs e = let n = ap length e in let l = length-append (xs ++ y ∷ ys) zs in
+      let m = length-append xs (y ∷ ys) in absurd (omega arith)
 
   -- a list between two that have the same entries of a caller has them too
-  pub by_between : (c : ℕ) (xs ys zs mine : List E) → IsPrefix xs ys → IsPrefix ys zs → by c xs ≡ mine → by c zs ≡ mine → by c ys ≡ mine
+  pub by_between : (c : ℕ) (xs ys zs mine : List E) → IsPrefix xs ys → IsPrefix ys zs
+      → by c xs ≡ mine → by c zs ≡ mine → by c ys ≡ mine
   by_between c xs ys zs mine p q low high =
       let front : by c xs ++ by c p.0 ≡ by c ys = sym (by_append c xs p.0) ∙ ap (by c) p.1 in
-      let whole : (by c xs ++ by c p.0) ++ by c q.0 ≡ by c xs = ap (λ w. w ++ by c q.0) front ∙ (sym (by_append c ys q.0) ∙ (ap (by c) q.1 ∙ (high ∙ sym low))) in
+      let whole : (by c xs ++ by c p.0) ++ by c q.0 ≡ by c xs =
+      ap (λ w. w ++ by c q.0) front
+      ∙ (sym (by_append c ys q.0) ∙ (ap (by c) q.1 ∙ (high ∙ sym low))) in
       let none : by c p.0 ≡ [] = none_left (by c xs) (by c p.0) (by c q.0) whole in
       sym front ∙ (ap (λ w. by c xs ++ w) none ∙ (append-nil (by c xs) ∙ low))
 
@@ -106,17 +118,22 @@ module _ {E : Type 0} (caller_of : E → ℕ) where
   by_one_other c e other = grind (arith, nat_tests)
 
   pub by_other : (c : ℕ) (xs : List E) (e : E) → caller_of e ≢ c → by c (xs ++ e ∷ []) ≡ by c xs
-  by_other c xs e other = by_append c xs (e ∷ []) ∙ (ap (λ w. by c xs ++ w) (by_one_other c e other) ∙ append-nil (by c xs))
+  by_other c xs e other =
+      by_append c xs (e ∷ [])
+      ∙ (ap (λ w. by c xs ++ w) (by_one_other c e other) ∙ append-nil (by c xs))
 
   -- a number past all that were given made nothing
   pub by_none : (n : ℕ) (xs : List E) → All (λ e. caller_of e < n) xs → by n xs ≡ []
   by_none n [] all = refl
   by_none n (x ∷ xs) all =
       let here : caller_of x < n = All-head (λ e. caller_of e < n) x xs all in
-      by_append n (x ∷ []) xs ∙ (ap (λ w. w ++ by n xs) (by_one_other n x (omega arith)) ∙ by_none n xs (All-tail (λ e. caller_of e < n) x xs all))
+      by_append n (x ∷ []) xs
+      ∙ (ap (λ w. w ++ by n xs) (by_one_other n x (omega arith))
+      ∙ by_none n xs (All-tail (λ e. caller_of e < n) x xs all))
 
 module _ {V : Type 0} where
-  pub total_set : (f : V → ℕ) (vs : List V) (i : ℕ) (v w : V) → get_elem? vs i ≡ some v → total f (set vs i w) + f v ≡ total f vs + f w
+  pub total_set : (f : V → ℕ) (vs : List V) (i : ℕ) (v w : V) → get_elem? vs i ≡ some v
+      → total f (set vs i w) + f v ≡ total f vs + f w
   total_set f [] i v w at = absurd (some-ne-none v (sym at))
   total_set f (x ∷ xs) zero v w at = let e : f x ≡ f v = ap f (some-injective x v at) in omega arith
   total_set f (x ∷ xs) (suc i) v w at = let rest = total_set f xs i v w at in omega arith
@@ -129,60 +146,76 @@ module _ {V : Type 0} where
   total_le f g le [] = omega arith
   total_le f g le (x ∷ xs) = let rest = total_le f g le xs in let here = le x in omega arith
 
-  pub total_one : (f : V → ℕ) (vs : List V) (i : ℕ) (v : V) → get_elem? vs i ≡ some v → f v ≤ total f vs
+  pub total_one : (f : V → ℕ) (vs : List V) (i : ℕ) (v : V) → get_elem? vs i ≡ some v
+      → f v ≤ total f vs
   total_one f [] i v at = absurd (some-ne-none v (sym at))
   total_one f (x ∷ xs) zero v at = let e : f x ≡ f v = ap f (some-injective x v at) in omega arith
   total_one f (x ∷ xs) (suc i) v at = let rest = total_one f xs i v at in omega arith
 
   -- two places weigh no more than all
-  pub total_two : (f : V → ℕ) (vs : List V) (i j : ℕ) (v w : V) → get_elem? vs i ≡ some v → get_elem? vs j ≡ some w → i ≢ j → f v + f w ≤ total f vs
+  pub total_two : (f : V → ℕ) (vs : List V) (i j : ℕ) (v w : V) → get_elem? vs i ≡ some v
+      → get_elem? vs j ≡ some w → i ≢ j → f v + f w ≤ total f vs
   total_two f [] i j v w at there other = absurd (some-ne-none v (sym at))
   total_two f (x ∷ xs) zero zero v w at there other = absurd (other refl)
-  total_two f (x ∷ xs) zero (suc j) v w at there other = let e : f x ≡ f v = ap f (some-injective x v at) in let rest = total_one f xs j w there in omega arith
-  total_two f (x ∷ xs) (suc i) zero v w at there other = let e : f x ≡ f w = ap f (some-injective x w there) in let rest = total_one f xs i v at in omega arith
-  total_two f (x ∷ xs) (suc i) (suc j) v w at there other = let rest = total_two f xs i j v w at there (λ e. other (ap suc e)) in omega arith
+  total_two f (x ∷ xs) zero (suc j) v w at there other = let e : f x ≡ f v =
+      ap f (some-injective x v at) in let rest = total_one f xs j w there in omega arith
+  total_two f (x ∷ xs) (suc i) zero v w at there other = let e : f x ≡ f w =
+      ap f (some-injective x w there) in let rest = total_one f xs i v at in omega arith
+  total_two f (x ∷ xs) (suc i) (suc j) v w at there other = let rest =
+      total_two f xs i j v w at there (λ e. other (ap suc e)) in omega arith
 
-  -- numbers stay apart where one element changes, and its number is the old one or one that no other has
-  pub apart_set : (number : V → Option ℕ) (vs : List V) (i : ℕ) (v w : V) → get_elem? vs i ≡ some v → Apart number vs
-      → ((n : ℕ) → number w ≡ some n → (number v ≡ some n) ⊎ ((j : ℕ) (u : V) → j ≢ i → get_elem? vs j ≡ some u → number u ≢ some n)) → Apart number (set vs i w)
+  -- numbers stay apart where one element changes, and its number is the old one or one that no
+  -- other has
+  pub apart_set : (number : V → Option ℕ) (vs : List V) (i : ℕ) (v w : V) → get_elem? vs i ≡ some v
+      → Apart number vs
+      → ((n : ℕ) → number w ≡ some n
+      → (number v ≡ some n)
+      ⊎ ((j : ℕ) (u : V) → j ≢ i → get_elem? vs j ≡ some u → number u ≢ some n))
+      → Apart number (set vs i w)
   apart_set number vs i v w at apart new j k a b n ja kb an bn =
       ⊎_elim
       (λ (s : (j ≡ i) × (w ≡ a)). ⊎_elim
       (λ (t : (k ≡ i) × (w ≡ b)). s.0 ∙ sym t.0)
       (λ (t : (k ≢ i) × (get_elem? vs k ≡ some b)). absurd (⊎_elim
       (λ (same : number v ≡ some n). t.0 (sym (apart i k v b n at t.1 same bn)))
-      (λ (fresh : (m : ℕ) (u : V) → m ≢ i → get_elem? vs m ≡ some u → number u ≢ some n). fresh k b t.0 t.1 bn)
+      (λ (fresh : (m : ℕ) (u : V) → m ≢ i → get_elem? vs m ≡ some u → number u ≢ some n).
+      fresh k b t.0 t.1 bn)
       (new n (ap number s.1 ∙ an))))
       (at_set vs i k w b kb))
       (λ (s : (j ≢ i) × (get_elem? vs j ≡ some a)). ⊎_elim
       (λ (t : (k ≡ i) × (w ≡ b)). absurd (⊎_elim
       (λ (same : number v ≡ some n). s.0 (apart j i a v n s.1 at an same))
-      (λ (fresh : (m : ℕ) (u : V) → m ≢ i → get_elem? vs m ≡ some u → number u ≢ some n). fresh j a s.0 s.1 an)
+      (λ (fresh : (m : ℕ) (u : V) → m ≢ i → get_elem? vs m ≡ some u → number u ≢ some n).
+      fresh j a s.0 s.1 an)
       (new n (ap number t.1 ∙ bn))))
       (λ (t : (k ≢ i) × (get_elem? vs k ≡ some b)). apart j k a b n s.1 t.1 an bn)
       (at_set vs i k w b kb))
       (at_set vs i j w a ja)
 
 module _ {A : Type 0} where
-  pub All-both : (P Q R : A → Type 0) → ((x : A) → P x → Q x → R x) → (xs : List A) → All P xs → All Q xs → All R xs
+  pub All-both : (P Q R : A → Type 0) → ((x : A) → P x → Q x → R x) → (xs : List A) → All P xs
+      → All Q xs → All R xs
   All-both P Q R both xs p q = λ k d less. both _ (p k d less) (q k d less)
 
   pub All-front : (P : A → Type 0) (xs ys : List A) → All P (xs ++ ys) → All P xs
   All-front P [] ys all k d less = absurd (omega arith)
   All-front P (x ∷ xs) ys all zero d less = All-head P x (xs ++ ys) all
-  All-front P (x ∷ xs) ys all (suc k) d less = All-front P xs ys (All-tail P x (xs ++ ys) all) k d (omega arith)
+  All-front P (x ∷ xs) ys all (suc k) d less =
+      All-front P xs ys (All-tail P x (xs ++ ys) all) k d (omega arith)
 
   -- what holds of each element holds of each of a front
   pub All-prefix : (P : A → Type 0) (xs ys : List A) → IsPrefix xs ys → All P ys → All P xs
   All-prefix P xs ys p all = All-front P xs p.0 (subst (All P) (sym p.1) all)
 
-  pub set_there : (vs : List A) (i : ℕ) (v w : A) → get_elem? vs i ≡ some v → get_elem? (set vs i w) i ≡ some w
+  pub set_there : (vs : List A) (i : ℕ) (v w : A) → get_elem? vs i ≡ some v
+      → get_elem? (set vs i w) i ≡ some w
   set_there [] i v w at = absurd (some-ne-none v (sym at))
   set_there (x ∷ xs) zero v w at = refl
   set_there (x ∷ xs) (suc i) v w at = set_there xs i v w at
 
   -- where one element changes, what holds of it and of the others holds of each
-  pub each_set : (F : A → Type 0) (vs : List A) (i : ℕ) (w : A) → F w → ((j : ℕ) (d : A) → j ≢ i → get_elem? vs j ≡ some d → F d)
+  pub each_set : (F : A → Type 0) (vs : List A) (i : ℕ) (w : A) → F w
+      → ((j : ℕ) (d : A) → j ≢ i → get_elem? vs j ≡ some d → F d)
       → (j : ℕ) (d : A) → get_elem? (set vs i w) j ≡ some d → F d
   each_set F vs i w mine others j d at = ⊎_elim (λ (t : (j ≡ i) × (w ≡ d)). subst F t.1 mine)
       (λ (t : (j ≢ i) × (get_elem? vs j ≡ some d)). others j d t.0 t.1) (at_set vs i j w d at)
@@ -204,17 +237,26 @@ module _ {A : Type 0} where
   only_view a (suc i) b at = absurd (some-ne-none b (sym at))
 
   -- what stands in a list with one element more
-  pub at_end : (vs : List A) (j : ℕ) (w d : A) → get_elem? (vs ++ w ∷ []) j ≡ some d → (get_elem? vs j ≡ some d) ⊎ ((j ≡ length vs) × (w ≡ d))
+  pub at_end : (vs : List A) (j : ℕ) (w d : A) → get_elem? (vs ++ w ∷ []) j ≡ some d
+      → (get_elem? vs j ≡ some d) ⊎ ((j ≡ length vs) × (w ≡ d))
   at_end [] zero w d at = inr (refl, some-injective w d at)
   at_end [] (suc j) w d at = absurd (some-ne-none d (sym at))
   at_end (x ∷ xs) zero w d at = inl at
-  at_end (x ∷ xs) (suc j) w d at = ⊎_elim (λ (old : get_elem? xs j ≡ some d). inl old) (λ (t : (j ≡ length xs) × (w ≡ d)). inr (ap suc t.0, t.1)) (at_end xs j w d at)
+  at_end (x ∷ xs) (suc j) w d at =
+      ⊎_elim (λ (old : get_elem? xs j ≡ some d). inl old)
+      (λ (t : (j ≡ length xs) × (w ≡ d)). inr (ap suc t.0, t.1)) (at_end xs j w d at)
 
-  pub each_snoc : (F : A → Type 0) (vs : List A) (w : A) → ((j : ℕ) (d : A) → get_elem? vs j ≡ some d → F d) → F w → (j : ℕ) (d : A) → get_elem? (vs ++ w ∷ []) j ≡ some d → F d
-  each_snoc F vs w old new j d at = ⊎_elim (λ (there : get_elem? vs j ≡ some d). old j d there) (λ (t : (j ≡ length vs) × (w ≡ d)). subst F t.1 new) (at_end vs j w d at)
+  pub each_snoc : (F : A → Type 0) (vs : List A) (w : A)
+      → ((j : ℕ) (d : A) → get_elem? vs j ≡ some d → F d) → F w → (j : ℕ) (d : A)
+      → get_elem? (vs ++ w ∷ []) j ≡ some d → F d
+  each_snoc F vs w old new j d at =
+      ⊎_elim (λ (there : get_elem? vs j ≡ some d). old j d there)
+      (λ (t : (j ≡ length vs) × (w ≡ d)). subst F t.1 new) (at_end vs j w d at)
 
   -- numbers stay apart where an element comes whose number no other has
-  pub apart_snoc : (number : A → Option ℕ) (vs : List A) (w : A) → Apart number vs → ((n : ℕ) → number w ≡ some n → (j : ℕ) (u : A) → get_elem? vs j ≡ some u → number u ≢ some n) → Apart number (vs ++ w ∷ [])
+  pub apart_snoc : (number : A → Option ℕ) (vs : List A) (w : A) → Apart number vs
+      → ((n : ℕ) → number w ≡ some n → (j : ℕ) (u : A) → get_elem? vs j ≡ some u
+      → number u ≢ some n) → Apart number (vs ++ w ∷ [])
   apart_snoc number vs w apart fresh i j a b n ia jb an bn =
       ⊎_elim
       (λ (s : get_elem? vs i ≡ some a). ⊎_elim

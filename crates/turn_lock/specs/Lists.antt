@@ -1,5 +1,6 @@
 -- Lists: sums over them, numbers that differ, and the longer of two.
-use Rattle.std.specs.Prelude.{◌≡◌, ℕ, ◌+◌, ◌==◌, List, [], ◌∷◌, length, filter, nat_le, if◌then◌else◌}
+use Rattle.std.specs.Prelude.{◌≡◌, ℕ, ◌+◌, ◌==◌, List, [], ◌∷◌, length, filter, nat_le}
+use Rattle.std.specs.Prelude.{if◌then◌else◌}
 use mathlib.Core.Option.{Option, some}
 use lib.ListN.{get_elem?}
 
@@ -18,4 +19,6 @@ total weight (v ∷ vs) = weight v + total weight vs
 
 -- no two elements have the same number
 abbrev pub Apart : {V : Type 0} → (V → Option ℕ) → List V → Type 0
-Apart {V} number vs = (i j : ℕ) (v w : V) (n : ℕ) → get_elem? vs i ≡ some v → get_elem? vs j ≡ some w → number v ≡ some n → number w ≡ some n → i ≡ j
+Apart {V} number vs =
+    (i j : ℕ) (v w : V) (n : ℕ) → get_elem? vs i ≡ some v → get_elem? vs j ≡ some w
+    → number v ≡ some n → number w ≡ some n → i ≡ j

@@ -1,5 +1,8 @@
--- The rule of the lock's table: what holds between any two steps. Word 0 counts the tickets that were drawn and word 1 the turns that were served, both modulo 2^64. The one slot has the value but while a pass holds the turn.
-use Rattle.std.specs.Prelude.{◌≡◌, ◌≢◌, ℕ, ◌+◌, ◌^◌, ◌%◌, ◌<◌, ◌≤◌, List, length, [], ◌∷◌, false, All, Option, Some}
+-- The rule of the lock's table: what holds between any two steps. Word 0 counts the tickets that
+-- were drawn and word 1 the turns that were served, both modulo 2^64. The one slot has the value
+-- but while a pass holds the turn.
+use Rattle.std.specs.Prelude.{◌≡◌, ◌≢◌, ℕ, ◌+◌, ◌^◌, ◌%◌, ◌<◌, ◌≤◌, List, length, [], ◌∷◌, false}
+use Rattle.std.specs.Prelude.{All, Option, Some}
 use mathlib.Core.Option.{none, some}
 use mathlib.Core.Option as maybe
 use mathlib.Core.List.{IsPrefix}
@@ -48,7 +51,8 @@ module _ {E B : Type 0} where
   abbrev pub wait_weight : View E B → ℕ
   wait_weight v = waits v.standing
 
--- the one list and the one base, and what the root knows: the next number, how many passes are away, and those that were joined
+-- the one list and the one base, and what the root knows: the next number, how many passes are
+-- away, and those that were joined
 pub record Now (E B : Type 0) : Type 0 where
   pub log : List E
   pub base : B
@@ -57,14 +61,16 @@ pub record Now (E B : Type 0) : Type 0 where
   pub ended : List (Ended E)
 
 module _ {E B : Type 0} (caller_of : E → ℕ) (now : Now E B) (k : Known E B) where
-  -- of each seat: it has the one base, it has seen a front of the list, and what it saw begins with the two lists of which it took the longer
+  -- of each seat: it has the one base, it has seen a front of the list, and what it saw begins with
+  -- the two lists of which it took the longer
   pub record Knows : Type 0 where
     pub base : k.base ≡ now.base
     pub seen : IsPrefix k.seen now.log
     pub first : IsPrefix k.first k.seen
     pub second : IsPrefix k.second k.seen
 
-  -- of each pass: its number was given and no ended pass had it, and its own entries are those of its number, in what it saw and in the whole list. The root knows what it keeps
+  -- of each pass: its number was given and no ended pass had it, and its own entries are those of
+  -- its number, in what it saw and in the whole list. The root knows what it keeps
   pub record KnowsPass : Type 0 where
     pub given : k.caller < now.next
     pub mine : entries_by caller_of k.caller k.seen ≡ k.mine
@@ -75,7 +81,8 @@ module _ {E B : Type 0} (caller_of : E → ℕ) (now : Now E B) (k : Known E B) 
     pub ended : k.caller ≡ 0 → k.ended ≡ now.ended
     pub kept : k.caller ≡ 0 → All (λ f. entries_by caller_of f.caller k.seen ≡ f.mine) now.ended
 
-  -- a ticket that isn't served is one of those from the next turn on, and it is the next turn for the pass that holds the turn, which has seen the whole list
+  -- a ticket that isn't served is one of those from the next turn on, and it is the next turn for
+  -- the pass that holds the turn, which has seen the whole list
   abbrev pub Fits : ℕ → ℕ → Standing → Type 0
   Fits served waiting Free = Knows × KnowsPass
   Fits served waiting (Waiting t) = Knows × KnowsPass × (served ≤ t) × (t < served + waiting)
@@ -93,7 +100,8 @@ pub record HasWhole {E B : Type 0} (log : List E) (views : List (View E B)) : Ty
 
 -- no pass holds the turn
 abbrev pub NoneHolds : {E B : Type 0} → List (View E B) → Type 0
-NoneHolds {E} {B} views = (seat : ℕ) (v : View E B) → get_elem? views seat ≡ some v → holds_turn v.standing ≡ false
+NoneHolds {E} {B} views =
+    (seat : ℕ) (v : View E B) → get_elem? views seat ≡ some v → holds_turn v.standing ≡ false
 
 module _ {K E B : Type 0} (entries : K → List E) (base_of : K → B) (caller_of : E → ℕ) where
   -- the value is in the slot, with the one list and the one base
@@ -103,14 +111,17 @@ module _ {K E B : Type 0} (entries : K → List E) (base_of : K → B) (caller_o
     pub list : entries value ≡ now.log
     pub base : base_of value ≡ now.base
 
-  -- there is one list, of which each seat has seen a front and some pass the whole, and a value with just that list, in the slot while no pass holds the turn. Passes have numbers of their own, and so have the tickets that aren't served
+  -- there is one list, of which each seat has seen a front and some pass the whole, and a value
+  -- with just that list, in the slot while no pass holds the turn. Passes have numbers of their
+  -- own, and so have the tickets that aren't served
   pub record IsKept (s : State (Option K) (View E B)) : Type 0 where
     pub now : Now E B
     pub served : ℕ
     pub waiting : ℕ
     pub words : s.words ≡ ((served + waiting) % 2 ^ 64) ∷ (served % 2 ^ 64) ∷ []
     pub home : NoneHolds s.views → IsHome now s.homes
-    pub each : (seat : ℕ) (v : View E B) → get_elem? s.views seat ≡ some v → Fits caller_of now v.known served waiting v.standing
+    pub each : (seat : ℕ) (v : View E B) → get_elem? s.views seat ≡ some v
+        → Fits caller_of now v.known served waiting v.standing
     pub numbers : Apart number_of s.views
     pub tickets : Apart ticket_of s.views
     pub whole : HasWhole now.log s.views

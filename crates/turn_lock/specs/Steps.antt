@@ -30,11 +30,15 @@ module _ {E B : Type 0} where
 
   -- a pass whose turn was served with an entry
   abbrev pub served_with : (E → ℕ) → View E B → List E → View E B
-  served_with caller_of v log = record { standing = Free; known = record v.known { seen = log; mine = entries_by caller_of v.known.caller log } }
+  served_with caller_of v log = record {
+    standing = Free;
+    known = record v.known { seen = log; mine = entries_by caller_of v.known.caller log };
+  }
 
   -- the root that has given a number, and the pass that has it
   abbrev pub split_root : View E B → View E B
-  split_root v = record v { known = record v.known { next = v.known.next + 1; away = v.known.away + 1 } }
+  split_root v =
+      record v { known = record v.known { next = v.known.next + 1; away = v.known.away + 1 } }
 
   abbrev pub new_pass : View E B → View E B
   new_pass v = record { standing = Free; known = newly v.known.next v.known.base v.known.seen 0 }
@@ -56,7 +60,12 @@ module _ {E B : Type 0} where
 
   -- the root that has taken a pass back
   abbrev pub joined : View E B → View E B → View E B
-  joined v w = record v { known = record (taken v.known w.known) { away = v.known.away - 1; ended = v.known.ended ++ record { caller = w.known.caller; mine = w.known.mine } ∷ [] } }
+  joined v w = record v {
+    known = record (taken v.known w.known) {
+      away = v.known.away - 1;
+      ended = v.known.ended ++ record { caller = w.known.caller; mine = w.known.mine } ∷ [];
+    };
+  }
 
   -- what the view shows is sound, whichever lock it is for
   abbrev pub ShowsSound : (E → ℕ) → View E B → Type 0
@@ -70,7 +79,8 @@ module _ {K E B : Type 0} (entries : K → List E) (base_of : K → B) (caller_o
   abbrev pub Draws : Step (Option K) → Seated → ℕ → Seated → Type 0
   Draws st m found m' = (t : ℕ) × (found ≡ t % 2 ^ 64) × (m' ≡ (drawn m.0 t, m.1))
 
-  -- the pass has the turn and the slot, and has seen the value's whole list, which begins with what it had seen. Where it is the root and no pass is away it had seen all
+  -- the pass has the turn and the slot, and has seen the value's whole list, which begins with what
+  -- it had seen. Where it is the root and no pass is away it had seen all
   pub record HasTurn (m : Seated) (t : ℕ) (m' : Seated) : Type 0 where
     pub value : K
     pub slot : m'.1 ≡ (0, Some value) ∷ []
@@ -80,11 +90,15 @@ module _ {K E B : Type 0} (entries : K → List E) (base_of : K → B) (caller_o
     pub alone : m.0.known.caller ≡ 0 → m.0.known.away ≡ 0 → entries value ≡ m.0.known.seen
     pub sound : ShowsSound caller_of m'.0
 
-  -- where the turn that was found is that of the pass's ticket, it has the turn; else nothing changes
+  -- where the turn that was found is that of the pass's ticket, it has the turn; else nothing
+  -- changes
   abbrev pub Looks : Step (Option K) → Seated → ℕ → Seated → Type 0
-  Looks st m found m' = (t : ℕ) → m.0.standing ≡ Waiting t → (found ≡ t % 2 ^ 64 → HasTurn m t m') × (found ≢ t % 2 ^ 64 → m' ≡ m)
+  Looks st m found m' =
+      (t : ℕ) → m.0.standing ≡ Waiting t
+      → (found ≡ t % 2 ^ 64 → HasTurn m t m') × (found ≢ t % 2 ^ 64 → m' ≡ m)
 
-  -- nothing changes, and both lists of which the pass took the longer are fronts of what it has seen
+  -- nothing changes, and both lists of which the pass took the longer are fronts of what it has
+  -- seen
   pub record Compares (st : Step (Option K)) (m : Seated) (found : ℕ) (m' : Seated) : Type 0 where
     pub same : m' ≡ m
     pub first : IsPrefix m.0.known.first m.0.known.seen
@@ -92,9 +106,11 @@ module _ {K E B : Type 0} (entries : K → List E) (base_of : K → B) (caller_o
     pub sound : ShowsSound caller_of m.0
 
   -- the value's list is the one list now, and the pass has seen it
-  pub record ServesEntry (st : Step (Option K)) (m : Seated) (found : ℕ) (m' : Seated) : Type 0 where
-    pub seat : (value : K) → m.1 ≡ (0, Some value) ∷ [] → m' ≡ (served_with caller_of m.0 (entries value), [])
-    pub sound : ShowsSound caller_of m'.0
+  pub record ServesEntry (st : Step (Option K)) (m : Seated) (found : ℕ) (m' : Seated) : Type 0
+    where
+      pub seat : (value : K) → m.1 ≡ (0, Some value) ∷ []
+          → m' ≡ (served_with caller_of m.0 (entries value), [])
+      pub sound : ShowsSound caller_of m'.0
 
   -- the turn is served, and the list stays
   abbrev pub Serves : Step (Option K) → Seated → ℕ → Seated → Type 0

@@ -28,7 +28,17 @@ shown lock v =
 
 -- what a seat knows that has seen this, with a number and no entries of its own
 abbrev pub newly : {E B : Type 0} → ℕ → B → List E → ℕ → Known E B
-newly caller base seen next = record { caller = caller; base = base; seen = seen; mine = []; first = []; second = []; next = next; away = 0; ended = [] }
+newly caller base seen next = record {
+  caller = caller;
+  base = base;
+  seen = seen;
+  mine = [];
+  first = [];
+  second = [];
+  next = next;
+  away = 0;
+  ended = [];
+}
 
 -- the root has seen nothing, and gave no number yet
 abbrev pub root_view : {E B : Type 0} → B → View E B
@@ -42,7 +52,8 @@ StandsStill _ held = ⊥
 
 module _ {K E B : Type 0} where
   -- what a pass keeps between calls
-  pub record IsAtRest (caller_of : E → ℕ) (caller next : ℕ) (lock : TableId) (me : Me (Option K) (View E B)) : Type 0 where
+  pub record IsAtRest (caller_of : E → ℕ) (caller next : ℕ) (lock : TableId)
+      (me : Me (Option K) (View E B)) : Type 0 where
     pub same_caller : me.0.known.caller ≡ caller
     pub same_next : me.0.known.next ≡ next
     pub still : StandsStill me.0.standing me.1

@@ -5,8 +5,11 @@ use crate::keeps::Keeps;
 use crate::plays::Place;
 use std::marker::Model;
 
-/// A caller's token for one lock. It shows a front of the list that the lock's value keeps, in which
-/// stand the entries that it made itself and no other entries of its number.
+/// The last number of a pass. The first, of the root, is 0.
+pub const LAST_PASS: u32 = u32::MAX;
+
+/// A caller's token for one lock. It shows a front of the list that the lock's value keeps, in
+/// which stand the entries that it made itself and no other entries of its number.
 #[derive(Drop)]
 pub struct Pass<K: Keeps> {
     // The number of the pass.

@@ -1,5 +1,6 @@
 //! The lock.
-ghost use Rattle.std.specs.Prelude.{◌≡◌, ◌+◌, ◌-◌, ◌≤◌, IsOk, ◌%◌, ◌^◌, ◌++◌, [], ◌∷◌, length, drop, true, false, IfOk, IfErr, Some, None};
+ghost use Rattle.std.specs.Prelude.{◌≡◌, ◌+◌, ◌-◌, ◌≤◌, IsOk, ◌%◌, ◌^◌, ◌++◌, [], ◌∷◌, length};
+ghost use Rattle.std.specs.Prelude.{drop, true, false, IfOk, IfErr, Some, None};
 ghost use mathlib.Core.List.{IsPrefix};
 ghost use Rattle.turn_lock.specs.Passes.{IsSound, AddsOne, root_of, next_pass, ended_of};
 ghost use Rattle.turn_lock.specs.Lists.{longer};
@@ -8,7 +9,7 @@ ghost use Rattle.turn_lock.specs.Steps.{HasTurn, IsWaiting, ShowsSound, joined, 
 ghost use Rattle.turn_lock.specs.declared.view.Standing.TheVariants.{Free};
 
 use crate::keeps::Keeps;
-use crate::pass::Pass;
+use crate::pass::{LAST_PASS, Pass};
 use crate::plays::{
     Compare, Desk, Draw, GiveNumber, Learn, Look, Place, Serve, ServeEntry, TakeBack, Tell,
 };
@@ -46,7 +47,8 @@ impl<K: Keeps> Model for Turn<K> {
 
     ghost view = { λ t. t.table.shared.table_id };
 
-    ghost invariant = { λ t. (t.table.shared.table_id.words ≡ 2) × (t.table.shared.table_id.slots ≡ 1) };
+    ghost invariant = { λ t.
+        (t.table.shared.table_id.words ≡ 2) × (t.table.shared.table_id.slots ≡ 1) };
 }
 
 impl<K: Keeps> Turn<K> {
@@ -128,13 +130,14 @@ impl<K: Keeps> Turn<K> {
         self.wake_after(turn);
     }
 
-    /// A new pass, with the next number, for a caller of its own. It has seen what the root has. It takes
-    /// no memory, so the answer is always Ok.
+    /// A new pass, with the next number, for a caller of its own. That number is at most
+    /// [`LAST_PASS`]. The pass has seen what the root has. It takes no memory, so the answer is
+    /// always Ok.
     pub fn split(&self, root: &mut Pass<K>) -> Result<Pass<K>, NoMemory>
         requires lock { root.old.lock ≡ self.now }
         requires root { root.old.caller ≡ 0 }
         requires free { root.old.holds ≡ false }
-        requires room { root.old.next ≤ 4294967295 }
+        requires room { root.old.next ≤ LAST_PASS }
         ensures always { IsOk result }
         ensures pass { IfOk result (λ pass. pass ≡ next_pass root.old) }
         ensures root { root.new
@@ -178,8 +181,8 @@ impl<K: Keeps> Turn<K> {
         self.take_back(&mut root.seat, seat);
     }
 
-    /// A pass learns what another has seen; the other stays as it was. It takes no memory, so the answer
-    /// is always Ok.
+    /// A pass learns what another has seen; the other stays as it was. It takes no memory, so the
+    /// answer is always Ok.
     pub fn meet(&self, pass: &mut Pass<K>, other: &mut Pass<K>) -> Result<(), NoMemory>
         requires lock { pass.old.lock ≡ self.now }
         requires other_lock { other.old.lock ≡ self.now }

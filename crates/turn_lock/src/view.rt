@@ -11,8 +11,8 @@ pub struct Ended<E> {
 pub enum Standing {
     /// A pass that has no ticket.
     Free,
-    /// A pass with this ticket, whose turn it isn't yet. Tickets are counted without end here; the words
-    /// of the table count modulo 2^64.
+    /// A pass with this ticket, whose turn it isn't yet. Tickets are counted without end here; the
+    /// words of the table count modulo 2^64.
     Waiting(u64),
     /// A pass with this ticket, whose turn it is.
     Holding(u64),

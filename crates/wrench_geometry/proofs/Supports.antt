@@ -1,5 +1,7 @@
 -- Greatest products and supports, one element more, and what they are at least.
-use Rattle.std.proofs.Common.{Bool, true, false, cond, ◌≡◌, ℕ, zero, suc, ◌+◌, ◌*◌, ◌^◌, ◌<◌, ◌≤◌, ℤ, pos, ◌+ℤ◌, ◌≤ℤ◌, List, [], ◌∷◌, All, fold, map, length, take, get_or, ap, ap₂, sym, ◌∙◌, refl, arith, SFits, w64}
+use Rattle.std.proofs.Common.{Bool, true, false, cond, ◌≡◌, ℕ, zero, suc, ◌+◌, ◌*◌, ◌^◌, ◌<◌, ◌≤◌}
+use Rattle.std.proofs.Common.{ℤ, pos, ◌+ℤ◌, ◌≤ℤ◌, List, [], ◌∷◌, All, fold, map, length, take}
+use Rattle.std.proofs.Common.{get_or, ap, ap₂, sym, ◌∙◌, refl, arith, SFits, w64}
 use Rattle.std.specs.Int.{int_max}
 use Rattle.std.specs.Ordering.{ord_max, int_cmp, is_lt}
 use Rattle.std.specs.declared.cmp.Ordering.TheVariants.{Less, Equal, Greater}

@@ -1,5 +1,6 @@
 -- Sums of one image of each list, with one list more.
-use Rattle.std.proofs.Common.{◌≡◌, ℕ, suc, zero, ◌+◌, ◌*◌, ◌<◌, ◌≤◌, ℤ, pos, ◌+ℤ◌, List, [], ◌∷◌, ◌++◌, length, take, get_or, ap, ap₂, sym, ◌∙◌, refl, arith}
+use Rattle.std.proofs.Common.{◌≡◌, ℕ, suc, zero, ◌+◌, ◌*◌, ◌<◌, ◌≤◌, ℤ, pos, ◌+ℤ◌, List, [], ◌∷◌}
+use Rattle.std.proofs.Common.{◌++◌, length, take, get_or, ap, ap₂, sym, ◌∙◌, refl, arith}
 use Rattle.std.proofs.lemmas.Int.{ints}
 use Rattle.std.proofs.lemmas.List.{take_more}
 use Rattle.int_ring.proofs.Laws.{linear}
@@ -7,7 +8,8 @@ use Rattle.int_ring.proofs.Ring.{ring, reads}
 use Rattle.plant_model.specs.Numbers.{IsWithin}
 use Rattle.wrench_geometry.specs.declared.vector.Vec3.{Vec3}
 use Rattle.wrench_geometry.specs.declared.vector.TheConstants.{MOST_PLAIN}
-use Rattle.wrench_geometry.specs.Vectors.{IsVectorWithin, dot_of, greatest_of, support_of, sum_of, zero_vector}
+use Rattle.wrench_geometry.specs.Vectors.{IsVectorWithin, dot_of, greatest_of, support_of, sum_of}
+use Rattle.wrench_geometry.specs.Vectors.{zero_vector}
 use Rattle.wrench_geometry.specs.Wrenches.{IsImage, AreImages, IsSum, image_at, sum_at}
 use Rattle.wrench_geometry.specs.Vertices.{ArePlaces}
 use Rattle.wrench_geometry.proofs.Bounds.{same_vector, wider}

@@ -12,7 +12,8 @@ use plant_model::plant::Plant;
 use plant_model::thrust::Point;
 use thrust_region::Chosen;
 
-/// The images of the chosen pieces, each at the lever of its thruster. There are as many pieces as thrusters.
+/// The images of the chosen pieces, each at the lever of its thruster. There are as many pieces as
+/// thrusters.
 pub fn sums_of(plant: &Plant, chosen: &Chosen) -> Sums
     requires { length chosen.now.pieces.items ≡ length plant.now.thrusters.items }
     ensures { result ≡ images_of (levers_of plant.now) (map points_of chosen.now.pieces.items) }

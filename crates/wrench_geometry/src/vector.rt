@@ -1,6 +1,7 @@
 //! Vectors in space.
 ghost use Rattle.std.specs.Prelude.{◌≡◌, ◌⊎◌};
-ghost use Rattle.wrench_geometry.specs.Vectors.{IsVectorWithin, cross_of, difference_of, dot_of, opposite_of, sum_of};
+ghost use Rattle.wrench_geometry.specs.Vectors.{IsVectorWithin, cross_of, difference_of, dot_of};
+ghost use Rattle.wrench_geometry.specs.Vectors.{opposite_of, sum_of};
 
 /// How far from 0 the components of one vector of a dot product may be, and those of both vectors
 /// of a difference.

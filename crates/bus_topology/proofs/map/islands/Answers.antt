@@ -6,6 +6,8 @@ use Rattle.bus_topology.proofs.map.islands.Goals as goal
 
 pub returns : goal.returns
 returns c =
-    let all : c.loop-place.place ≡ length c.args.plant.now.ties.items = grind (arith, common_steps) in
+    let all : c.loop-place.place ≡ length c.args.plant.now.ties.items =
+    grind (arith, common_steps) in
     map_when_taken c.args.plant.now c.args.standing.now c.loop-place.islands.of
-    (subst (λ (taken : ℕ). IsMapSoFar c.args.plant.now c.args.standing.now taken c.loop-place.islands.of) all c.loop-place.invariant)
+    (subst (λ (taken : ℕ). IsMapSoFar c.args.plant.now c.args.standing.now taken
+    c.loop-place.islands.of) all c.loop-place.invariant)

@@ -8,7 +8,21 @@ use Rattle.certificate.proofs.holds.is_taken_along.Goals as goal
 pub returns-then-most-z-clause-taken : goal.returns-then-most-z-clause-taken
 returns-then-most-z-clause-taken c =
     let from = c.if-most-z.true in
-    let most : to_z w128 (of_z w128 (pos 4294967296 *ℤ to_z w128 (of_z w128 (to_z w64 (of_z w64 c.args.q))))) ≡ pos 4294967296 *ℤ c.args.q = strip (search machine depth 40 fits 5000) tt in
-    let least : to_z w128 (of_z w128 (neg_ℤ (to_z w128 (of_z w128 (pos 4294967296 *ℤ to_z w128 (of_z w128 (to_z w64 (of_z w64 c.args.q)))))))) ≡ neg_ℤ (pos 4294967296 *ℤ c.args.q) = strip (search machine depth 40 fits 5000) tt in
-    let z : to_z w128 (of_z w128 c.args.z) ≡ c.args.z = strip (search machine depth 40 fits 5000) tt in
-    (λ t. record { low = omega (arith, linear); high = passed z most t }, λ within. passes z most within.high)
+    let most : to_z w128
+    (of_z w128 (pos 4294967296 *ℤ to_z w128 (of_z w128 (to_z w64 (of_z w64 c.args.q)))))
+    ≡ pos 4294967296 *ℤ c.args.q = strip (search machine depth 40 fits 5000) tt in
+    let least : to_z w128
+    (of_z w128
+    (neg_ℤ
+    (to_z w128
+    (of_z w128 (pos 4294967296 *ℤ to_z w128 (of_z w128 (to_z w64 (of_z w64 c.args.q)))))))) ≡ neg_ℤ
+    (pos 4294967296 *ℤ c.args.q) = strip (search machine depth 40 fits 5000) tt in
+    let z : to_z w128 (of_z w128 c.args.z) ≡ c.args.z =
+    strip (search machine depth 40 fits 5000) tt in (
+      λ t. record {
+        low = omega (arith, linear);
+        high =
+            passed z most t;
+      },
+      λ within. passes z most within.high,
+    )

@@ -5,4 +5,5 @@ use Rattle.certificate.specs.Sides.{IsInTriangle}
 use Rattle.certificate.proofs.hull.is_in_some_triangle.Given as goal
 
 abbrev pub invariant-loop-second : goal.invariant-loop-second
-invariant-loop-second l = (k : ℕ) → k < l.second-index → IsInTriangle l.first (slice_index_or l.points k origin) l.thrust l.q → ⊥
+invariant-loop-second l = (k : ℕ) → k < l.second-index →
+    IsInTriangle l.first (slice_index_or l.points k origin) l.thrust l.q → ⊥

@@ -4,7 +4,8 @@ use Rattle.std.proofs.lemmas.Int.{to_z-of_z}
 use Rattle.certificate.proofs.hull.is_next_to.Goals as goal
 
 -- where the first of two is out, the test of the other says which of both holds
-second_of : {P R : Type 0} (b : Bool) → (P → IsTrue false) → (IsTrue b → R) × (R → IsTrue b) → (IsTrue b → P ⊎ R) × (P ⊎ R → IsTrue b)
+second_of : {P R : Type 0} (b : Bool) → (P → IsTrue false) → (IsTrue b → R) × (R → IsTrue b) →
+    (IsTrue b → P ⊎ R) × (P ⊎ R → IsTrue b)
 second_of {P} {R} b out says = (λ t. inr (says.0 t), λ either. holds either)
   where
     holds : P ⊎ R → IsTrue b

@@ -5,4 +5,5 @@ use Rattle.certificate.specs.Sides.{IsNextTo}
 use Rattle.certificate.proofs.hull.is_next_to_some.Given as goal
 
 abbrev pub invariant-loop-point : goal.invariant-loop-point
-invariant-loop-point l = (k : ℕ) → k < l.point-index → IsNextTo l.points l.thrust l.q (slice_index_or l.points k origin) → ⊥
+invariant-loop-point l = (k : ℕ) → k < l.point-index →
+    IsNextTo l.points l.thrust l.q (slice_index_or l.points k origin) → ⊥

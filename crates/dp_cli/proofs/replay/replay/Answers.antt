@@ -1,71 +1,143 @@
--- What each end of a session says: faulty words, another plant, a session that ended, and one that
--- was stopped.
-use Rattle.std.proofs.Common.{rules, arith, ◌≡◌, ℕ, [], Err, ap, length, slice_index_or, subst, sym}
-use Rattle.std.proofs.Common.{◌∙◌}
+-- What each end of a session says: faulty words, no plant, a session that ended, and one that was
+-- stopped.
+use Rattle.std.proofs.Common.{◌≡◌, ap, sym, length, Ok, Err}
+use Rattle.std.proofs.Math.Path.{refl}
 use Rattle.std.specs.Prelude.{map, string_bytes}
-use Rattle.std.proofs.lemmas.Grind.{common_steps}
-use Rattle.plant_model.specs.Demo.{demo_parts}
-use Rattle.plant_model.specs.declared.plant.Parts.{Parts}
-use Rattle.dp_cli.specs.declared.dp_words.PlantFault.TheVariants.{NotBuilt}
-use Rattle.dp_cli.specs.declared.dp_words.RunStatus.TheVariants.{Plant, WriteFault}
-use Rattle.dp_cli.specs.Sessions.{WritesPart, WritesWhole, shown}
-use Rattle.dp_cli.proofs.Endings.{cause-plant, complete-ended, history-ended, history-stopped}
-use Rattle.dp_cli.proofs.Endings.{is-demo}
-use Rattle.dp_cli.proofs.Endings.{other-word, seen-at}
+use Rattle.dp_words.specs.Shown.{shown}
+use Rattle.dp_words.specs.declared.status.RunStatus.TheVariants.{WriteFault}
+use Rattle.dp_cli.specs.Sessions.{WordsSay, WritesPart}
+use Rattle.dp_cli.specs.declared.session.Ending.TheVariants.{Full}
+use Rattle.dp_cli.proofs.Endings.{cause-ended, cause-no_plant, cause-stopped, cause-usage}
+use Rattle.dp_cli.proofs.Endings.{complete-ended, complete-no_plant, complete-stopped}
+use Rattle.dp_cli.proofs.Endings.{complete-usage, history-ended, history-no_plant}
+use Rattle.dp_cli.proofs.Endings.{history-stopped, history-usage, named-at}
 use Rattle.dp_cli.proofs.replay.replay.Goals as goal
 
-pub returns-in-Err-plant_from : goal.returns-in-Err-plant_from
-returns-in-Err-plant_from g c =
+pub returns-in-Err-clause-session : goal.returns-in-Err-clause-session
+returns-in-Err-clause-session g c =
+    let words = map string_bytes c.args.words.now in
+    let first = shown g.A.Source.left g.A.Source.faults c.args.first.now c.args.first.now in
     let telegrams = c.args.telegrams.now in
     let source = shown g.B.Source.left g.B.Source.faults telegrams telegrams in
     let out = shown g.O.Sink.taken g.O.Sink.faults c.args.out.now c.args.out.now in
+    let kind = c.in-Err.kind in
+    let is = sym c.in-Err.ensures.form in
+    record {
+      history = history-usage words kind first source out refl;
+      causes = cause-usage words kind first source out is;
+      complete = complete-usage words kind first source out is;
+    }
+
+pub returns-in-Err-plant_from-clause-session : goal.returns-in-Err-plant_from-clause-session
+returns-in-Err-plant_from-clause-session g c =
     let words = map string_bytes c.args.words.now in
+    let first =
+    shown g.A.Source.left g.A.Source.faults c.args.first.now c.plant_from.new.source in
+    let telegrams = c.args.telegrams.now in
+    let source = shown g.B.Source.left g.B.Source.faults telegrams telegrams in
+    let out = shown g.O.Sink.taken g.O.Sink.faults c.args.out.now c.args.out.now in
     let word = c.as_str.result.now in
-    let other = other-word word c.in-Err-plant_from.status _ c.in-Err-plant_from.ensures.demo in
-    let at_place = c.as_str.ensures.value
-    ∙ seen-at string_bytes c.args.words.now c.plant.result c.index-words-plant.result
+    let is_form = sym c.in-Ok.ensures.form in
+    let named =
+    named-at string_bytes c.args.words.now c.index-words-plant.result c.in-Ok.form word
+    c.plant.result is_form c.plant.ensures.place
     (c.plant.ensures.within (length c.args.words.now) c.in-Ok.ensures.within)
-    c.index-words-plant.is in
-    let at = at_place ∙ ap (λ (place : ℕ). slice_index_or words place []) c.plant.ensures.place in
-    let status : c.in-Err-plant_from.status ≡ Plant NotBuilt =
-    cc (c.in-Err-plant_from.ensures.other other) in
+    c.index-words-plant.is c.as_str.ensures.value in
+    let status = c.in-Err-plant_from.status in
+    let error = c.in-Err-plant_from.ensures.finds.error in
     record {
-      history = first_of (search rules, grind (arith, common_steps));
-      causes = cause-plant words word c.in-Ok.form c.in-Err-plant_from.status source out
-          (sym c.in-Ok.ensures.form) at other status;
-      complete = first_of (search rules, grind (arith, common_steps));
+      history = history-no_plant words status word first source out error refl;
+      causes = cause-no_plant words c.in-Ok.form status word first source out is_form named error;
+      complete = complete-no_plant words status word first source out named error;
     }
 
-pub returns-in-Ok-session : goal.returns-in-Ok-session
-returns-in-Ok-session g c =
+pub returns-in-Err-plant_from-clause-unread : goal.returns-in-Err-plant_from-clause-unread
+returns-in-Err-plant_from-clause-unread g c = λ none.
+    let word = c.as_str.result.now in
+    let named =
+    named-at string_bytes c.args.words.now c.index-words-plant.result c.in-Ok.form word
+    c.plant.result (sym c.in-Ok.ensures.form) c.plant.ensures.place
+    (c.plant.ensures.within (length c.args.words.now) c.in-Ok.ensures.within)
+    c.index-words-plant.is c.as_str.ensures.value in
+    c.in-Err-plant_from.ensures.unread (none word named)
+
+pub returns-in-Ok-session-clause-session : goal.returns-in-Ok-session-clause-session
+returns-in-Ok-session-clause-session g c =
+    let words = map string_bytes c.args.words.now in
+    let first =
+    shown g.A.Source.left g.A.Source.faults c.args.first.now c.plant_from.new.source in
     let source =
     shown g.B.Source.left g.B.Source.faults c.args.telegrams.now c.session.new.source in
     let out = shown g.O.Sink.taken g.O.Sink.faults c.args.out.now c.session.new.out in
-    let found = c.in-Ok-plant_from in
-    let demo = is-demo c.as_str.result.now found.plant _ found.ensures.demo found.ensures.other in
+    let word = c.as_str.result.now in
+    let is_form = sym c.in-Ok.ensures.form in
+    let named =
+    named-at string_bytes c.args.words.now c.index-words-plant.result c.in-Ok.form word
+    c.plant.result is_form c.plant.ensures.place
+    (c.plant.ensures.within (length c.args.words.now) c.in-Ok.ensures.within)
+    c.index-words-plant.is c.as_str.ensures.value in
+    let plant = c.in-Ok-plant_from.plant in
+    let says : WordsSay words first (Ok plant) =
+    record { word = word; named = named; says = c.in-Ok-plant_from.ensures.finds.found } in
     let ending = c.in-Ok-session.ending in
-    let whole = subst (λ (p : Parts). WritesWhole p ending source out) demo
-    c.in-Ok-session.ensures.ended in
+    let status = c.status.result in
+    let is = c.status.ensures in
+    let whole = c.in-Ok-session.ensures.ended in
+    let full = λ (is_full : ending ≡ Full). c.in-Ok-session.ensures.full (ap Ok is_full) in
     record {
-      history = history-ended c.status.result ending source out c.status.ensures whole;
-      causes = first_of (search rules, grind (arith, common_steps));
-      complete =
-          complete-ended (map string_bytes c.args.words.now) c.status.result ending source out
-          c.status.ensures whole;
+      history = history-ended words status ending plant first source out says is whole;
+      causes = cause-ended words c.in-Ok.form status ending plant first source out is_form says is
+          whole full;
+      complete = complete-ended words status ending plant first source out is whole full;
     }
 
-pub returns-in-Err-session : goal.returns-in-Err-session
-returns-in-Err-session g c =
+pub returns-in-Ok-session-clause-unread : goal.returns-in-Ok-session-clause-unread
+returns-in-Ok-session-clause-unread g c = λ none.
+    let word = c.as_str.result.now in
+    let named =
+    named-at string_bytes c.args.words.now c.index-words-plant.result c.in-Ok.form word
+    c.plant.result (sym c.in-Ok.ensures.form) c.plant.ensures.place
+    (c.plant.ensures.within (length c.args.words.now) c.in-Ok.ensures.within)
+    c.index-words-plant.is c.as_str.ensures.value in
+    c.in-Ok-plant_from.ensures.unread (none word named)
+
+pub returns-in-Err-session-clause-session : goal.returns-in-Err-session-clause-session
+returns-in-Err-session-clause-session g c =
+    let words = map string_bytes c.args.words.now in
+    let first =
+    shown g.A.Source.left g.A.Source.faults c.args.first.now c.plant_from.new.source in
     let source =
     shown g.B.Source.left g.B.Source.faults c.args.telegrams.now c.session.new.source in
     let out = shown g.O.Sink.taken g.O.Sink.faults c.args.out.now c.session.new.out in
-    let found = c.in-Ok-plant_from in
-    let demo = is-demo c.as_str.result.now found.plant _ found.ensures.demo found.ensures.other in
+    let word = c.as_str.result.now in
+    let is_form = sym c.in-Ok.ensures.form in
+    let named =
+    named-at string_bytes c.args.words.now c.index-words-plant.result c.in-Ok.form word
+    c.plant.result is_form c.plant.ensures.place
+    (c.plant.ensures.within (length c.args.words.now) c.in-Ok.ensures.within)
+    c.index-words-plant.is c.as_str.ensures.value in
+    let plant = c.in-Ok-plant_from.plant in
+    let says : WordsSay words first (Ok plant) =
+    record { word = word; named = named; says = c.in-Ok-plant_from.ensures.finds.found } in
+    let status = c.in-Err-session.status in
     let stopped = c.in-Err-session.ensures in
-    let part : c.in-Err-session.status ≡ WriteFault → WritesPart demo_parts source out =
-    λ fault. subst (λ (p : Parts). WritesPart p source out) demo (stopped.cut (ap Err fault)) in
+    let part : status ≡ WriteFault → WritesPart plant source out =
+    λ fault. stopped.cut (ap Err fault) in
+    let failed = λ (fault : status ≡ WriteFault). stopped.writing.failed (ap Err fault) in
     record {
-      history = history-stopped c.in-Err-session.status source out stopped.writing.errors part;
-      causes = first_of (search rules, grind (arith, common_steps));
-      complete = first_of (search rules, grind (arith, common_steps));
+      history = history-stopped words status plant first source out says stopped.writing.errors
+          part;
+      causes = cause-stopped words c.in-Ok.form status plant first source out is_form says
+          stopped.writing.errors failed;
+      complete = complete-stopped words status first source out stopped.writing.errors failed;
     }
+
+pub returns-in-Err-session-clause-unread : goal.returns-in-Err-session-clause-unread
+returns-in-Err-session-clause-unread g c = λ none.
+    let word = c.as_str.result.now in
+    let named =
+    named-at string_bytes c.args.words.now c.index-words-plant.result c.in-Ok.form word
+    c.plant.result (sym c.in-Ok.ensures.form) c.plant.ensures.place
+    (c.plant.ensures.within (length c.args.words.now) c.in-Ok.ensures.within)
+    c.index-words-plant.is c.as_str.ensures.value in
+    c.in-Ok-plant_from.ensures.unread (none word named)

@@ -3,7 +3,7 @@ use Rattle.std.proofs.Common.{◌<◌, ◌+◌, List, ℕ, ◌++◌, length, tak
 use Rattle.std.proofs.lemmas.Result.{err_from_is_err_and, on_err_weaker}
 use Rattle.dp_io.specs.Streams.{Grew}
 use Rattle.dp_io.proofs.Grown.{Grew-append}
-use Rattle.dp_cli.specs.Sessions.{GrewInPart}
+use Rattle.dp_words.specs.Shown.{GrewInPart}
 use Rattle.dp_cli.proofs.Given.{lines-more, part-front, part-back}
 use Rattle.dp_cli.proofs.session.send_lines.Goals as goal
 

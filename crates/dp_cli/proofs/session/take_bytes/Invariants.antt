@@ -1,7 +1,8 @@
 -- The bytes so far were fed, and their items answered.
-use Rattle.std.proofs.Common.{◌≡◌, List, ℕ, ◌++◌, take}
+use Rattle.std.proofs.Common.{◌≡◌, List, ℕ, ◌++◌, take, true}
 use Rattle.frame.specs.Frames.{StandsFor, items}
 use Rattle.dp_cli.specs.Sessions.{AnswersItems}
+use Rattle.dp_cli.specs.Steps.{TakesBytes}
 use Rattle.dp_cli.proofs.session.take_bytes.Given as goal
 
 abbrev pub invariant-loop-byte : goal.invariant-loop-byte
@@ -9,6 +10,5 @@ invariant-loop-byte l = record {
   plant : l.core.plant ≡ l.fn.core.plant;
   limit : l.core.limit ≡ l.fn.core.limit;
   answered : (fed : List ℕ) → StandsFor l.fn.framer fed → AnswersItems l.fn.core.history (items fed)
-      → StandsFor l.framer (fed ++ take l.byte-index l.bytes)
-      × AnswersItems l.core.history (items (fed ++ take l.byte-index l.bytes));
+      → TakesBytes true l.core l.framer (fed ++ take l.byte-index l.bytes);
 }

@@ -1,22 +1,29 @@
--- What was answered so far counts as many events as items, which are fewer than the limit, and
--- closes nothing.
-use Rattle.std.proofs.Common.{◌≡◌, ◌<◌, ap, arith}
-use Rattle.plant_core.specs.Machine.{state_after}
-use Rattle.dp_cli.specs.Sessions.{Asked, asked_for}
-use Rattle.dp_cli.proofs.Answered.{counts, room-item}
+-- The item was answered, or the history has no room for it.
+use Rattle.std.proofs.Common.{Bool, not, ap, subst, sym}
+use Rattle.dp_cli.specs.Steps.{TakesItem}
+use Rattle.dp_cli.proofs.Answered.{IsAsked, takes-item, takes-none}
 use Rattle.dp_cli.proofs.session.take_item.Goals as goal
+use Rattle.dp_cli.proofs.session.take_item.Goals.{in-JournalFull, in_default}
 
-pub apply-requires-clause-open : goal.apply-requires-clause-open
-apply-requires-clause-open c =
-    (counts c.args.core.now.plant c.args.core.now.history c.requires.room.0
-    c.requires.room.1).is_closed
-
-pub apply-requires-clause-room : goal.apply-requires-clause-room
-apply-requires-clause-room c =
-    let state = state_after c.args.core.now.plant c.args.core.now.history in
-    let all =
-    counts c.args.core.now.plant c.args.core.now.history c.requires.room.0 c.requires.room.1 in
-    let few : state.events < c.args.core.now.limit = omega (arith, all.events, c.requires.room.2) in
-    let call : c.asked_for-caller.result.1 ≡ (asked_for c.args.item).1 =
-    ap (λ (a : Asked). a.1) c.asked_for-caller.ensures in
-    rw call (room-item c.args.core.now.limit state c.args.item few)
+pub returns-clause-answered : goal.returns-clause-answered
+returns-clause-answered c =
+    let old = c.args.core.now in
+    let new = c.apply.new.self in
+    let item = c.args.item in
+    let asks = c.asked_for-caller.result in
+    let reply = c.in_ok-reply.reply in
+    let is : IsAsked old new item asks reply = record {
+      answered = c.requires.0;
+      so_far = c.requires.1;
+      asks_is = c.asked_for-caller.ensures.asked;
+      allowed = c.in_ok-reply.ensures.allowed;
+      history = c.in_ok-reply.ensures.history;
+    } in
+    elim c.match-matches.branch [
+      | in-JournalFull w ↦ subst (λ (b : Bool). TakesItem b old new item)
+          (sym (ap not w.matches-is))
+          (takes-none old new item asks reply is w.in-JournalFull.is)
+      | in_default w ↦ subst (λ (b : Bool). TakesItem b old new item)
+          (sym (ap not w.matches-is))
+          (takes-item old new item asks reply is w.in_default.not-JournalFull)
+    ]

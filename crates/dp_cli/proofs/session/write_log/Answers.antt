@@ -1,15 +1,28 @@
 -- The first line in part, the line of an entry in part, and a line more.
-use Rattle.std.proofs.Common.{◌≡◌, List, ℕ, ◌++◌, Err, ◌∙◌, ap, subst, arith}
+use Rattle.std.proofs.Common.{◌≡◌, List, ℕ, ◌++◌, Err, ◌∙◌, ap, subst, sym, arith, IsTrue}
 use Rattle.std.proofs.lemmas.Result.{err_from_is_err_and}
 use Rattle.std.specs.List.{flat_map}
 use Rattle.dp_io.specs.Streams.{Grew}
+use Rattle.plant_core.specs.Machine.{IsLegal, is_answer, opening}
 use Rattle.plant_core.specs.declared.call.Entry.{Entry}
-use Rattle.dp_cli.specs.Sessions.{GrewInPart}
+use Rattle.dp_words.specs.Shown.{GrewInPart}
 use Rattle.dp_cli.specs.Texts.{log_head, entry_text}
 use Rattle.dp_cli.proofs.Given.{part-front}
+use Rattle.dp_cli.proofs.Answers.{answer-at}
 use Rattle.dp_cli.proofs.Logs.{lines-part, lines-whole, part-as}
 use Rattle.dp_cli.proofs.Writing.{text-failed}
 use Rattle.dp_cli.proofs.session.write_log.Goals as goal
+
+pub entry_text-requires : goal.entry_text-requires
+entry_text-requires g c =
+    let core = c.args.core.now in
+    let xs : List Entry = c.history-entry-items.result.now in
+    let legal : IsLegal core.plant core.limit xs =
+    subst (λ (h : List Entry). IsLegal core.plant core.limit h)
+    (sym c.history-entry-items.ensures.entries) c.history-entry-items.ensures.legal in
+    subst (λ (e : Entry). IsTrue (is_answer e.reply)) (sym c.entry-item.is)
+    (answer-at core.plant core.limit (opening core.plant) xs legal c.loop-entry.entry-index
+    (omega arith) c.entry-item.result)
 
 pub returns-in_err-send_all : goal.returns-in_err-send_all
 returns-in_err-send_all g c =

@@ -1,7 +1,8 @@
 use Rattle.exit_point.proofs.Kept.{ends_turned}
 use Rattle.exit_point.proofs.Spans.{span_of_sum}
 use Rattle.exit_point.proofs.search.cone.Goals as goal
-use Rattle.exit_point.proofs.search.cone.Goals.{then-not-is_left, else-not-is_left+then-not-is_left-2}
+use Rattle.exit_point.proofs.search.cone.Goals.{then-not-is_left}
+use Rattle.exit_point.proofs.search.cone.Goals.{else-not-is_left+then-not-is_left-2}
 
 pub turned-first-requires-clause-first : goal.turned-first-requires-clause-first
 turned-first-requires-clause-first c = c.loop.invariant.first.within

@@ -4,9 +4,11 @@ use Rattle.plant_core.proofs.machine.legal_by_steps.Goals as goal
 
 pub returns-clause-steps : goal.returns-clause-steps
 returns-clause-steps c = λ plant limit history entry. (
-  (λ legal. let last = legal-last plant limit history entry legal in
-      (legal-front plant limit history entry legal, last.0, last.1)),
-  (λ parts. legal-push plant limit history entry parts.0 parts.1 parts.2),
+  (λ legal. (
+    legal-front plant limit history entry legal,
+    legal-last plant limit history entry legal,
+  )),
+  (λ parts. legal-push plant limit history entry parts.0 parts.1),
 )
 
 pub returns-clause-states : goal.returns-clause-states

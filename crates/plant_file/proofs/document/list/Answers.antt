@@ -7,4 +7,5 @@ pub returns-in-Some : goal.returns-in-Some
 returns-in-Some c =
     let found = rw c.in-Some.is at c.as_array.ensures in
     let same = ap (map view) c.as_slice.ensures.value in
-    list_in-as_array _ _ (sym found) ∙ elements-items_of (map view c.in-Some.values.now.items) ∙ sym same
+    list_in-as_array _ _ (sym found) ∙ elements-items_of (map view c.in-Some.values.now.items)
+    ∙ sym same

@@ -10,5 +10,6 @@ use Rattle.plant_file.proofs.judging.are_tables.Goals as goal
 pub returns : goal.returns
 returns c =
     let each : c.all.result ≡ list_all (λ value. is_table (view value)) c.args.values.now =
-    all_from_yields_List (λ value. is_table (view value)) _ _ c.all.result c.all.ensures.ran (YieldsList-from_slice c.args.values.now cc) (λ x b q k. search (rules, tests)) in
+    all_from_yields_List (λ value. is_table (view value)) _ _ c.all.result c.all.ensures.ran
+    (YieldsList-from_slice c.args.values.now cc) (λ x b q k. search (rules, tests)) in
     rw list_all-map each

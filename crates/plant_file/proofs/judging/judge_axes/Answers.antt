@@ -5,11 +5,14 @@ use Rattle.plant_file.proofs.JudgedLemmas.{judged_failed, judged_past}
 use Rattle.plant_file.proofs.judging.judge_axes.Goals as goal
 
 pub returns-in_err-judge_axis : goal.returns-in_err-judge_axis
-returns-in_err-judge_axis c = judged_failed _ _ _ _ c.from_residual.ensures.1 (sym c.judge_axis.ensures ∙ c.in_err-judge_axis.was)
+returns-in_err-judge_axis c =
+    judged_failed _ _ _ _ c.from_residual.ensures.1 (sym c.judge_axis.ensures
+    ∙ c.in_err-judge_axis.was)
 
 pub returns-in_err-judge_axis-2 : goal.returns-in_err-judge_axis-2
 returns-in_err-judge_axis-2 c =
-    judged_failed _ _ _ _ c.from_residual-in_err-judge_axis-2.ensures.1 (sym c.judge_axis-2.ensures ∙ c.in_err-judge_axis-2.was)
+    judged_failed _ _ _ _ c.from_residual-in_err-judge_axis-2.ensures.1 (sym c.judge_axis-2.ensures
+    ∙ c.in_err-judge_axis-2.was)
     ∙ sym (judged_past _ _ (sym c.judge_axis.ensures ∙ c.in_ok-judge_axis.was))
 
 pub returns : goal.returns

@@ -10,5 +10,7 @@ use Rattle.plant_file.proofs.kind.are_in.Goals as goal
 pub returns : goal.returns
 returns c =
     let each : c.all.result ≡ list_all (λ value. is_in c.args.span (view value)) c.args.values.now =
-    all_from_yields_List (λ value. is_in c.args.span (view value)) _ _ c.all.result c.all.ensures.ran (YieldsList-from_slice c.args.values.now cc) (λ x b q k. search (rules, tests)) in
+    all_from_yields_List (λ value. is_in c.args.span (view value)) _ _ c.all.result
+    c.all.ensures.ran (YieldsList-from_slice c.args.values.now cc)
+    (λ x b q k. search (rules, tests)) in
     rw list_all-map each

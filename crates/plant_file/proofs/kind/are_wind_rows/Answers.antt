@@ -10,6 +10,9 @@ use Rattle.plant_file.proofs.kind.are_wind_rows.Goals as goal
 
 pub returns : goal.returns
 returns c =
-    let each : c.all.result ≡ list_all (λ value. is_wind_row (wind_row_in (view value))) c.args.values.now =
-    all_from_yields_List (λ value. is_wind_row (wind_row_in (view value))) _ _ c.all.result c.all.ensures.ran (YieldsList-from_slice c.args.values.now cc) (λ x b q k. search (rules, tests)) in
+    let each : c.all.result
+    ≡ list_all (λ value. is_wind_row (wind_row_in (view value))) c.args.values.now =
+    all_from_yields_List (λ value. is_wind_row (wind_row_in (view value))) _ _ c.all.result
+    c.all.ensures.ran (YieldsList-from_slice c.args.values.now cc)
+    (λ x b q k. search (rules, tests)) in
     rw list_all-map each

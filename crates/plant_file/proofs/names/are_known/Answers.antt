@@ -11,6 +11,13 @@ use Rattle.plant_file.proofs.names.are_known.Goals as goal
 
 pub returns : goal.returns
 returns c =
-    let each : c.all.result ≡ list_all (λ value. list_any (bytes_eq (text_in (view value))) (names_of_parts c.args.parts.now (table_view c.args.document.now))) c.args.values.now =
-    all_from_yields_List (λ value. list_any (bytes_eq (text_in (view value))) (names_of_parts c.args.parts.now (table_view c.args.document.now))) _ _ c.all.result c.all.ensures.ran (YieldsList-from_slice c.args.values.now cc) (λ x b q k. search (rules, tests)) in
+    let each : c.all.result
+    ≡ list_all
+    (λ value. list_any (bytes_eq (text_in (view value)))
+    (names_of_parts c.args.parts.now (table_view c.args.document.now))) c.args.values.now =
+    all_from_yields_List
+    (λ value. list_any (bytes_eq (text_in (view value)))
+    (names_of_parts c.args.parts.now (table_view c.args.document.now))) _ _ c.all.result
+    c.all.ensures.ran (YieldsList-from_slice c.args.values.now cc)
+    (λ x b q k. search (rules, tests)) in
     rw (list_all-map, list_all-map) each

@@ -15,27 +15,46 @@ returns-in_err-judge_feeder c =
     let xs = c.elements-elements.result.now in
     let i = c.loop-index.index in
     let x = c.index-elements-index.result in
-    let here : get_or (enumerate_from 0 (map view xs)) i (0, view x) ≡ (i, view x) = get_or-placed view xs i x c.loop-index-test.true ∙ ap (λ y. (i, view y)) (sym c.index-elements-index.is) in
-    let within : i < length (enumerate_from 0 (map view xs)) = omega (arith, length-placed view xs) in
-    walk_failed (unfed (map (text_at Name) (map view c.elements-sections.result.now)) c.args.part) (enumerate_from 0 (map view xs)) i (0, view x) within _ _
-    c.from_residual.ensures.1 (rw here (sym c.judge_feeder.ensures ∙ c.in_err-judge_feeder.was)) c.loop-index.invariant
-    ∙ ap (λ ds. judged (flat_map (unfed (map (text_at Name) ds) c.args.part) (enumerate_from 0 (map view xs)))) (sym c.elements-sections.ensures)
-    ∙ ap (λ ds. judged (flat_map (unfed (names_of Section (table_view c.args.document.now)) c.args.part) (enumerate_from 0 ds))) (sym c.elements-elements.ensures)
+    let here : get_or (enumerate_from 0 (map view xs)) i (0, view x) ≡ (i, view x) =
+    get_or-placed view xs i x c.loop-index-test.true
+    ∙ ap (λ y. (i, view y)) (sym c.index-elements-index.is) in
+    let within : i < length (enumerate_from 0 (map view xs)) =
+    omega (arith, length-placed view xs) in
+    walk_failed (unfed (map (text_at Name) (map view c.elements-sections.result.now)) c.args.part)
+    (enumerate_from 0 (map view xs)) i (0, view x) within _ _
+    c.from_residual.ensures.1 (rw here (sym c.judge_feeder.ensures ∙ c.in_err-judge_feeder.was))
+    c.loop-index.invariant
+    ∙ ap (λ ds.
+    judged (flat_map (unfed (map (text_at Name) ds) c.args.part) (enumerate_from 0 (map view xs))))
+    (sym c.elements-sections.ensures)
+    ∙ ap (λ ds.
+    judged (flat_map (unfed (names_of Section (table_view c.args.document.now)) c.args.part)
+    (enumerate_from 0 ds))) (sym c.elements-elements.ensures)
 
 pub loop-index-preserved : goal.loop-index-preserved
 loop-index-preserved c =
     let xs = c.elements-elements.result.now in
     let i = c.loop-index.index in
     let x = c.index-elements-index.result in
-    let here : get_or (enumerate_from 0 (map view xs)) i (0, view x) ≡ (i, view x) = get_or-placed view xs i x c.loop-index-test.true ∙ ap (λ y. (i, view y)) (sym c.index-elements-index.is) in
-    let within : i < length (enumerate_from 0 (map view xs)) = omega (arith, length-placed view xs) in
-    walk_goes_on (unfed (map (text_at Name) (map view c.elements-sections.result.now)) c.args.part) (enumerate_from 0 (map view xs)) i (0, view x) within
+    let here : get_or (enumerate_from 0 (map view xs)) i (0, view x) ≡ (i, view x) =
+    get_or-placed view xs i x c.loop-index-test.true
+    ∙ ap (λ y. (i, view y)) (sym c.index-elements-index.is) in
+    let within : i < length (enumerate_from 0 (map view xs)) =
+    omega (arith, length-placed view xs) in
+    walk_goes_on (unfed (map (text_at Name) (map view c.elements-sections.result.now)) c.args.part)
+    (enumerate_from 0 (map view xs)) i (0, view x) within
     (rw here (sym c.judge_feeder.ensures ∙ c.in_ok-judge_feeder.was)) c.loop-index.invariant
 
 pub returns : goal.returns
 returns c =
     let xs = c.elements-elements.result.now in
-    let over : length (enumerate_from 0 (map view xs)) ≤ c.loop-index.index = omega (arith, length-placed view xs) in
-    walk_ended (unfed (map (text_at Name) (map view c.elements-sections.result.now)) c.args.part) (enumerate_from 0 (map view xs)) c.loop-index.index over c.loop-index.invariant
-    ∙ ap (λ ds. judged (flat_map (unfed (map (text_at Name) ds) c.args.part) (enumerate_from 0 (map view xs)))) (sym c.elements-sections.ensures)
-    ∙ ap (λ ds. judged (flat_map (unfed (names_of Section (table_view c.args.document.now)) c.args.part) (enumerate_from 0 ds))) (sym c.elements-elements.ensures)
+    let over : length (enumerate_from 0 (map view xs)) ≤ c.loop-index.index =
+    omega (arith, length-placed view xs) in
+    walk_ended (unfed (map (text_at Name) (map view c.elements-sections.result.now)) c.args.part)
+    (enumerate_from 0 (map view xs)) c.loop-index.index over c.loop-index.invariant
+    ∙ ap (λ ds.
+    judged (flat_map (unfed (map (text_at Name) ds) c.args.part) (enumerate_from 0 (map view xs))))
+    (sym c.elements-sections.ensures)
+    ∙ ap (λ ds.
+    judged (flat_map (unfed (names_of Section (table_view c.args.document.now)) c.args.part)
+    (enumerate_from 0 ds))) (sym c.elements-elements.ensures)

@@ -10,5 +10,7 @@ use Rattle.plant_file.proofs.names.judge_feeders.Given as goal
 
 abbrev pub invariant-loop-index : goal.invariant-loop-index
 invariant-loop-index l =
-    judged (flat_map (unfed (map (text_at Name) (map view l.sections)) l.part) (drop l.index (enumerate_from 0 (map view l.elements))))
-    ≡ judged (flat_map (unfed (map (text_at Name) (map view l.sections)) l.part) (enumerate_from 0 (map view l.elements)))
+    judged (flat_map (unfed (map (text_at Name) (map view l.sections)) l.part)
+    (drop l.index (enumerate_from 0 (map view l.elements))))
+    ≡ judged (flat_map (unfed (map (text_at Name) (map view l.sections)) l.part)
+    (enumerate_from 0 (map view l.elements)))

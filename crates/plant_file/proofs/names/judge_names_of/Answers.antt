@@ -15,10 +15,16 @@ returns-then-stands_earlier c =
     let xs = c.elements-elements.result.now in
     let i = c.loop-index.index in
     let x = c.index-elements-index.result in
-    let found : list_any (bytes_eq (text_at Name (view x))) (es ++ map (text_at Name) (map view (take i xs))) ≡ true = ap (λ t. list_any (bytes_eq t) (es ++ map (text_at Name) (map view (take i xs)))) (sym c.text_at-name.ensures) ∙ sym c.stands_earlier.ensures ∙ c.if-stands_earlier.true in
-    sym (names_stop view c.args.part xs es i x c.loop-index-test.true (sym c.index-elements-index.is) found)
+    let found : list_any (bytes_eq (text_at Name (view x)))
+    (es ++ map (text_at Name) (map view (take i xs))) ≡ true =
+    ap (λ t. list_any (bytes_eq t) (es ++ map (text_at Name) (map view (take i xs))))
+    (sym c.text_at-name.ensures) ∙ sym c.stands_earlier.ensures
+    ∙ c.if-stands_earlier.true in
+    sym (names_stop view c.args.part xs es i x c.loop-index-test.true
+    (sym c.index-elements-index.is) found)
     ∙ c.loop-index.invariant
-    ∙ ap (λ ds. judged (twice_after es (named_from c.args.part 0 ds))) (sym c.elements-elements.ensures)
+    ∙ ap (λ ds. judged (twice_after es (named_from c.args.part 0 ds)))
+    (sym c.elements-elements.ensures)
 
 pub loop-index-preserved : goal.loop-index-preserved
 loop-index-preserved c =
@@ -26,14 +32,21 @@ loop-index-preserved c =
     let xs = c.elements-elements.result.now in
     let i = c.loop-index.index in
     let x = c.index-elements-index.result in
-    let none : list_any (bytes_eq (text_at Name (view x))) (es ++ map (text_at Name) (map view (take i xs))) ≡ false = ap (λ t. list_any (bytes_eq t) (es ++ map (text_at Name) (map view (take i xs)))) (sym c.text_at-name.ensures) ∙ sym c.stands_earlier.ensures ∙ c.if-stands_earlier.false in
-    sym (names_more view c.args.part xs es i x c.loop-index-test.true (sym c.index-elements-index.is) none) ∙ c.loop-index.invariant
+    let none : list_any (bytes_eq (text_at Name (view x)))
+    (es ++ map (text_at Name) (map view (take i xs))) ≡ false =
+    ap (λ t. list_any (bytes_eq t) (es ++ map (text_at Name) (map view (take i xs))))
+    (sym c.text_at-name.ensures) ∙ sym c.stands_earlier.ensures
+    ∙ c.if-stands_earlier.false in
+    sym (names_more view c.args.part xs es i x c.loop-index-test.true
+    (sym c.index-elements-index.is) none) ∙ c.loop-index.invariant
 
 pub returns : goal.returns
 returns c =
     let es = names_of_parts c.args.earlier.now (table_view c.args.document.now) in
     let xs = c.elements-elements.result.now in
     let i = c.loop-index.index in
-    sym (names_over view c.args.part xs (es ++ map (text_at Name) (map view (take i xs))) i c.loop-index-test.false)
+    sym (names_over view c.args.part xs (es ++ map (text_at Name) (map view (take i xs))) i
+    c.loop-index-test.false)
     ∙ c.loop-index.invariant
-    ∙ ap (λ ds. judged (twice_after es (named_from c.args.part 0 ds))) (sym c.elements-elements.ensures)
+    ∙ ap (λ ds. judged (twice_after es (named_from c.args.part 0 ds)))
+    (sym c.elements-elements.ensures)

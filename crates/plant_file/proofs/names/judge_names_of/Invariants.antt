@@ -9,5 +9,9 @@ use Rattle.plant_file.proofs.names.judge_names_of.Given as goal
 
 abbrev pub invariant-loop-index : goal.invariant-loop-index
 invariant-loop-index l =
-    judged (twice_after (names_of_parts l.earlier (table_view l.document) ++ map (text_at Name) (map view (take l.index l.elements))) (drop l.index (named_from l.part 0 (map view l.elements))))
-    ≡ judged (twice_after (names_of_parts l.earlier (table_view l.document)) (named_from l.part 0 (map view l.elements)))
+    judged (twice_after
+    (names_of_parts l.earlier (table_view l.document)
+    ++ map (text_at Name) (map view (take l.index l.elements)))
+    (drop l.index (named_from l.part 0 (map view l.elements))))
+    ≡ judged (twice_after (names_of_parts l.earlier (table_view l.document))
+    (named_from l.part 0 (map view l.elements)))

@@ -8,5 +8,6 @@ use Rattle.plant_file.proofs.names.judge_repeated.Given as goal
 
 abbrev pub invariant-loop-index : goal.invariant-loop-index
 invariant-loop-index l =
-    judged (flat_map (repeated l.part l.key) (drop l.index (enumerate_from 0 (map view l.elements))))
+    judged (flat_map (repeated l.part l.key)
+    (drop l.index (enumerate_from 0 (map view l.elements))))
     ≡ judged (flat_map (repeated l.part l.key) (enumerate_from 0 (map view l.elements)))

@@ -9,5 +9,7 @@ use Rattle.plant_file.proofs.names.judge_unknown.Given as goal
 
 abbrev pub invariant-loop-index : goal.invariant-loop-index
 invariant-loop-index l =
-    judged (flat_map (unknown (names_of_parts l.cited (table_view l.document)) l.part l.key) (drop l.index (enumerate_from 0 (map view l.elements))))
-    ≡ judged (flat_map (unknown (names_of_parts l.cited (table_view l.document)) l.part l.key) (enumerate_from 0 (map view l.elements)))
+    judged (flat_map (unknown (names_of_parts l.cited (table_view l.document)) l.part l.key)
+    (drop l.index (enumerate_from 0 (map view l.elements))))
+    ≡ judged (flat_map (unknown (names_of_parts l.cited (table_view l.document)) l.part l.key)
+    (enumerate_from 0 (map view l.elements)))

@@ -5,7 +5,9 @@ use Rattle.plant_file.proofs.reading.parse.Goals as goal
 use Rattle.plant_file.proofs.reading.parse.Goals.{then-is_memory, else-is_memory}
 
 pub returns-in-Ok : goal.returns-in-Ok
-returns-in-Ok c = document_of-found c.args.bytes.now _ c.if-bytes-gt-MOST_PLANT_BYTES.false c.in-Ok.ensures.ok.0 c.in-Ok.ensures.ok.1
+returns-in-Ok c =
+    document_of-found c.args.bytes.now _ c.if-bytes-gt-MOST_PLANT_BYTES.false c.in-Ok.ensures.ok.0
+    c.in-Ok.ensures.ok.1
 
 pub returns-after-is_memory : goal.returns-after-is_memory
 returns-after-is_memory c =
@@ -14,6 +16,7 @@ returns-after-is_memory c =
       | else-is_memory w ↦
           inr
           (document_of-refused c.args.bytes.now c.if-bytes-gt-MOST_PLANT_BYTES.false
-          (c.in-Err.ensures.refused (λ memory. false≢true (sym w.if-is_memory.false ∙ c.is_memory.ensures.1 memory)))
+          (c.in-Err.ensures.refused
+          (λ memory. false≢true (sym w.if-is_memory.false ∙ c.is_memory.ensures.1 memory)))
           ∙ ap Err (sym w.result-is))
     ]

@@ -9,6 +9,10 @@ use Rattle.plant_file.proofs.unknown.has_axes.Goals as goal
 
 pub returns : goal.returns
 returns c =
-    let each : c.all.result ≡ list_all (λ key. list_any (bytes_eq (string_bytes key)) axis_keys) (map (λ e. e.0) c.args.controller.now.entries) =
-    all_from_yields_List (λ key. list_any (bytes_eq (string_bytes key)) axis_keys) _ _ c.all.result c.all.ensures.ran (YieldsList-from_rest (map (λ e. e.0) c.args.controller.now.entries) c.keys.ensures.rest) (λ x b q k. search (rules, tests)) in
+    let each : c.all.result ≡ list_all (λ key. list_any (bytes_eq (string_bytes key)) axis_keys)
+    (map (λ e. e.0) c.args.controller.now.entries) =
+    all_from_yields_List (λ key. list_any (bytes_eq (string_bytes key)) axis_keys) _ _ c.all.result
+    c.all.ensures.ran
+    (YieldsList-from_rest (map (λ e. e.0) c.args.controller.now.entries) c.keys.ensures.rest)
+    (λ x b q k. search (rules, tests)) in
     rw list_all-keys each

@@ -9,6 +9,11 @@ use Rattle.plant_file.proofs.unknown.has_rows.Goals as goal
 
 pub returns : goal.returns
 returns c =
-    let each : c.all.result ≡ list_all (λ key. list_any (bytes_eq (string_bytes key)) (row_keys c.args.rows.now)) (map (λ e. e.0) c.args.table.now.entries) =
-    all_from_yields_List (λ key. list_any (bytes_eq (string_bytes key)) (row_keys c.args.rows.now)) _ _ c.all.result c.all.ensures.ran (YieldsList-from_rest (map (λ e. e.0) c.args.table.now.entries) c.keys.ensures.rest) (λ x b q k. search (rules, tests)) in
+    let each : c.all.result
+    ≡ list_all (λ key. list_any (bytes_eq (string_bytes key)) (row_keys c.args.rows.now))
+    (map (λ e. e.0) c.args.table.now.entries) =
+    all_from_yields_List (λ key. list_any (bytes_eq (string_bytes key)) (row_keys c.args.rows.now))
+    _ _ c.all.result c.all.ensures.ran
+    (YieldsList-from_rest (map (λ e. e.0) c.args.table.now.entries) c.keys.ensures.rest)
+    (λ x b q k. search (rules, tests)) in
     rw list_all-keys each

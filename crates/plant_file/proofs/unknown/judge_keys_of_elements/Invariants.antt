@@ -7,5 +7,7 @@ use Rattle.plant_file.proofs.unknown.judge_keys_of_elements.Given as goal
 
 abbrev pub invariant-loop-index : goal.invariant-loop-index
 invariant-loop-index l =
-    judged (faults_of_elements (unknown_faults_at l.part l.rows) (drop l.index (enumerate_from 0 (map view l.elements))))
-    ≡ judged (faults_of_elements (unknown_faults_at l.part l.rows) (enumerate_from 0 (map view l.elements)))
+    judged (faults_of_elements (unknown_faults_at l.part l.rows)
+    (drop l.index (enumerate_from 0 (map view l.elements))))
+    ≡ judged (faults_of_elements (unknown_faults_at l.part l.rows)
+    (enumerate_from 0 (map view l.elements)))

@@ -7,10 +7,14 @@ use Rattle.plant_file.proofs.unknown.judge_keys_of_part.Goals as goal
 
 pub judge_keys_of_elements-requires : goal.judge_keys_of_elements-requires
 judge_keys_of_elements-requires c =
-    let same : length (elements_at c.args.part (table_view c.args.document.now)) ≡ length c.elements.result.now = ap length c.elements.ensures ∙ length-map c.elements.result.now view in
+    let same : length (elements_at c.args.part (table_view c.args.document.now))
+    ≡ length c.elements.result.now =
+    ap length c.elements.ensures ∙ length-map c.elements.result.now view in
     omega (arith, c.requires.short c.args.part)
 
 pub returns : goal.returns
 returns c =
     c.judge_keys_of_elements.ensures
-    ∙ ap₂ (λ rows es. judged (faults_of_elements (unknown_faults_at c.args.part rows) (enumerate_from 0 es))) c.rows.ensures (sym c.elements.ensures)
+    ∙ ap₂ (λ rows es.
+    judged (faults_of_elements (unknown_faults_at c.args.part rows) (enumerate_from 0 es)))
+    c.rows.ensures (sym c.elements.ensures)

@@ -7,13 +7,17 @@ use Rattle.redundancy_groups.proofs.stands.selected.Goals as goal
 
 pub loop-place-preserved : goal.loop-place-preserved
 loop-place-preserved c =
-    let here : c.loop-place.place < length c.loop-place.selected = omega (arith, c.loop-place.invariant.long) in
+    let here : c.loop-place.place < length c.loop-place.selected =
+    omega (arith, c.loop-place.invariant.long) in
     record {
       long = search (rules, c.loop-place.invariant.long);
-      is = filled_more (is_selected_after c.args.parts.now c.args.status.now c.args.loss) c.loop-place.selected c.loop-place.place c.is_selected.result here c.is_selected.ensures c.loop-place.invariant.is;
+      is = filled_more (is_selected_after c.args.parts.now c.args.status.now c.args.loss)
+          c.loop-place.selected c.loop-place.place c.is_selected.result here c.is_selected.ensures
+          c.loop-place.invariant.is;
     }
 
 pub returns : goal.returns
 returns c =
-    fill_by_all (is_selected_after c.args.parts.now c.args.status.now c.args.loss) c.loop-place.selected MOST_THRUSTERS false c.loop-place.invariant.long
+    fill_by_all (is_selected_after c.args.parts.now c.args.status.now c.args.loss)
+    c.loop-place.selected MOST_THRUSTERS false c.loop-place.invariant.long
     (λ k h. c.loop-place.invariant.is k (omega arith))

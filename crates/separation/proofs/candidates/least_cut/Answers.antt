@@ -2,7 +2,8 @@ use Rattle.std.proofs.Common.{◌∙◌, get_or, take, sym, subst, arith, List}
 use Rattle.std.proofs.lemmas.List.{take_all, take_more}
 use Rattle.wrench_geometry.specs.declared.vector.Vec3.{Vec3}
 use Rattle.wrench_geometry.specs.Vectors.{zero_vector}
-use Rattle.separation.proofs.LeastCuts.{IsAtMostPairs, directions_of_sums, least_of_pairs, pairs_more, pairs_none}
+use Rattle.separation.proofs.LeastCuts.{IsAtMostPairs, directions_of_sums, least_of_pairs}
+use Rattle.separation.proofs.LeastCuts.{pairs_more, pairs_none}
 use Rattle.separation.proofs.candidates.least_cut.Goals as goal
 
 pub loop-place-init : goal.loop-place-init

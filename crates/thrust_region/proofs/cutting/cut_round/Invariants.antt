@@ -6,4 +6,5 @@ use Rattle.thrust_region.proofs.Cuts.{pieces_from}
 use Rattle.thrust_region.proofs.cutting.cut_round.Given as goal
 
 abbrev pub invariant-loop-place : goal.invariant-loop-place
-invariant-loop-place l = all_points l.pieces ++ pieces_from l.ring l.sectors l.place (length l.ring - l.place) ≡ cut l.ring l.sectors
+invariant-loop-place l = all_points l.pieces
+    ++ pieces_from l.ring l.sectors l.place (length l.ring - l.place) ≡ cut l.ring l.sectors

@@ -7,5 +7,6 @@ use Rattle.thrust_region.proofs.cutting.cut_run.Given as goal
 abbrev pub invariant-loop : goal.invariant-loop
 invariant-loop l = record {
   some : 0 < length l.rest;
-  whole : all_points l.pieces ++ wedges (length l.run - l.counter) l.rest ≡ all_points l.initial.pieces ++ wedges (length l.run) l.run;
+  whole : all_points l.pieces ++ wedges (length l.run - l.counter) l.rest
+      ≡ all_points l.initial.pieces ++ wedges (length l.run) l.run;
 }

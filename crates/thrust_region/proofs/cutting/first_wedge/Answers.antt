@@ -12,5 +12,8 @@ loop-point-preserved c =
     record {
       counted = omega arith;
       few = omega arith;
-      whole = rw c.push.ensures.items (passed (λ r. int_le (pos 0) (cross _ r)) MOST_PIECE_POINTS c.loop-point.point-index c.loop-point.wedge.points.items c.args.run.now _ origin (omega arith) room (sym c.is_half_turn.ensures ∙ c.if-not-is_half_turn.false) c.loop-point.invariant.whole);
+      whole = rw c.push.ensures.items
+          (passed (λ r. int_le (pos 0) (cross _ r)) MOST_PIECE_POINTS c.loop-point.point-index
+          c.loop-point.wedge.points.items c.args.run.now _ origin (omega arith) room
+          (sym c.is_half_turn.ensures ∙ c.if-not-is_half_turn.false) c.loop-point.invariant.whole);
     }

@@ -9,5 +9,7 @@ abbrev pub invariant-loop-point : goal.invariant-loop-point
 invariant-loop-point l = record {
   counted : length l.wedge.points.items ≡ l.point-index;
   few : l.point-index ≤ MOST_PIECE_POINTS;
-  whole : l.wedge.points.items ++ take (MOST_PIECE_POINTS - l.point-index) (take_while (λ r. int_le (pos 0) (cross l.first r)) (drop l.point-index l.run)) ≡ first_wedge l.run;
+  whole : l.wedge.points.items ++ take (MOST_PIECE_POINTS - l.point-index)
+      (take_while (λ r. int_le (pos 0) (cross l.first r)) (drop l.point-index l.run))
+      ≡ first_wedge l.run;
 }

@@ -8,5 +8,7 @@ abbrev pub invariant-loop : goal.invariant-loop
 invariant-loop l = record {
   place : l.place < length l.ring;
   counted : length l.run.items ≡ l.counter;
-  whole : l.run.items ++ map (point_at l.ring) (walk (begins_at l.sectors) (length l.ring) (length l.ring - l.counter) l.place) ≡ map (point_at l.ring) (walk (begins_at l.sectors) (length l.ring) (length l.ring) l.start);
+  whole : l.run.items ++ map (point_at l.ring)
+      (walk (begins_at l.sectors) (length l.ring) (length l.ring - l.counter) l.place)
+      ≡ map (point_at l.ring) (walk (begins_at l.sectors) (length l.ring) (length l.ring) l.start);
 }

@@ -9,6 +9,8 @@ invariant-loop-region l = record {
   counted : length l.pieces.items ≡ l.region-index;
   others : l.others ≡ choices_of (map all_points (drop l.region-index l.region-items));
   below : l.rest < l.others;
-  whole : map points_of l.pieces.items ++ choice_of (map all_points (drop l.region-index l.region-items)) l.rest ≡ choice_of (map all_points l.regions.list.items) l.k;
+  whole : map points_of l.pieces.items
+      ++ choice_of (map all_points (drop l.region-index l.region-items)) l.rest
+      ≡ choice_of (map all_points l.regions.list.items) l.k;
   within : are_thrusts (map points_of l.pieces.items) ≡ true;
 }

@@ -5,4 +5,6 @@ use Rattle.thrust_region.specs.Pieces.{all_points}
 use Rattle.thrust_region.proofs.regions.choices.Given as goal
 
 abbrev pub invariant-loop-pieces : goal.invariant-loop-pieces
-invariant-loop-pieces l = l.product * choices_of (map all_points (drop l.pieces-index l.pieces-items)) ≡ choices_of (map all_points l.regions.list.items)
+invariant-loop-pieces l = l.product * choices_of
+    (map all_points (drop l.pieces-index l.pieces-items))
+    ≡ choices_of (map all_points l.regions.list.items)

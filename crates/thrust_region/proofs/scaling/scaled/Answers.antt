@@ -14,6 +14,9 @@ scaled_piece-requires-clause-points c =
     let piece = c.piece-item.result in
     let each : list_all (λ p. list_all is_ring_point (points_of p)) pieces ≡ true =
     sym (list_all-map (list_all is_ring_point) points_of pieces)
-    ∙ ap (λ (l : List Piece). list_all (list_all is_ring_point) (map points_of l)) c.as_slice-piece-items.ensures.value
+    ∙ ap (λ (l : List Piece). list_all (list_all is_ring_point) (map points_of l))
+    c.as_slice-piece-items.ensures.value
     ∙ c.requires.points in
-    ap (λ (p : Piece). list_all is_ring_point (points_of p)) c.piece-item.is ∙ all_at (λ p. list_all is_ring_point (points_of p)) pieces c.loop-piece.piece-index piece (omega arith) each
+    ap (λ (p : Piece). list_all is_ring_point (points_of p)) c.piece-item.is
+    ∙ all_at (λ p. list_all is_ring_point (points_of p)) pieces c.loop-piece.piece-index piece
+    (omega arith) each

@@ -7,6 +7,8 @@ use Rattle.thrust_region.proofs.scaling.scaled.Given as goal
 abbrev pub invariant-loop-piece : goal.invariant-loop-piece
 invariant-loop-piece l = record {
   counted : length l.scaled.list.items ≡ l.piece-index;
-  whole : all_points l.scaled ++ scaled_points l.quarter (map points_of (drop l.piece-index l.piece-items)) ≡ scaled_points l.quarter (all_points l.pieces);
+  whole : all_points l.scaled ++ scaled_points l.quarter
+      (map points_of (drop l.piece-index l.piece-items))
+      ≡ scaled_points l.quarter (all_points l.pieces);
   within : are_thrusts (all_points l.scaled) ≡ true;
 }

@@ -1,5 +1,6 @@
 use Rattle.std.proofs.Common.{inl, inr, SFits, w64, rules}
-use Rattle.wrench_geometry.proofs.Wraps.{left_two, left_three, left_is, right_two, right_three, right_is}
+use Rattle.wrench_geometry.proofs.Wraps.{left_two, left_three, left_is, right_two, right_three}
+use Rattle.wrench_geometry.proofs.Wraps.{right_is}
 use Rattle.wrench_geometry.proofs.vector.dot.Goals as goal
 
 pub overflow_add-result : goal.overflow_add-result

@@ -6,7 +6,8 @@ use Rattle.wrench_geometry.specs.Wrenches.{IsImage, image_at}
 use Rattle.wrench_geometry.proofs.Supports.{next_place_taken, next_place_left}
 use Rattle.wrench_geometry.proofs.VertexSums.{image_is_sum}
 use Rattle.wrench_geometry.proofs.vertices.farthest_place.Goals as goal
-use Rattle.wrench_geometry.proofs.vertices.farthest_place.Goals.{then-product-greatest, else-product-greatest}
+use Rattle.wrench_geometry.proofs.vertices.farthest_place.Goals.{then-product-greatest}
+use Rattle.wrench_geometry.proofs.vertices.farthest_place.Goals.{else-product-greatest}
 
 pub product-product-requires-clause-point : goal.product-product-requires-clause-point
 product-product-requires-clause-point c =

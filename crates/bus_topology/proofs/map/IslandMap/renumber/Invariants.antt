@@ -4,4 +4,5 @@ use Rattle.bus_topology.proofs.map.IslandMap.renumber.Given as goal
 
 abbrev pub invariant-loop-island : goal.invariant-loop-island
 invariant-loop-island l =
-    l.island-items ≡ map (exchanged l.old l.new) (take l.island-index l.initial.island-items) ++ drop l.island-index l.initial.island-items
+    l.island-items ≡ map (exchanged l.old l.new) (take l.island-index l.initial.island-items)
+    ++ drop l.island-index l.initial.island-items

@@ -3,7 +3,9 @@ use Rattle.std.proofs.lemmas.List.{length-take-le, take_all, take_more}
 use Rattle.wrench_geometry.specs.declared.vector.Vec3.{Vec3}
 use Rattle.wrench_geometry.specs.Vectors.{zero_vector}
 use Rattle.separation.specs.Directions.{SettlesDifferences}
-use Rattle.separation.proofs.DirectionLists.{IsAdded, all_within, differences_more, differences_none, few_at_end, few_more, is_added, room_for_point, within_all}
+use Rattle.separation.proofs.DirectionLists.{IsAdded, all_within, differences_more}
+use Rattle.separation.proofs.DirectionLists.{differences_none, few_at_end, few_more, is_added}
+use Rattle.separation.proofs.DirectionLists.{room_for_point, within_all}
 use Rattle.separation.proofs.directions.Directions.add_differences.Goals as goal
 
 pub loop-place-init : goal.loop-place-init

@@ -6,4 +6,5 @@ use Rattle.telegram.proofs.writing.Fields.number.Goals as goal
 
 pub field-requires-clause-bytes : goal.field-requires-clause-bytes
 field-requires-clause-bytes c =
-    rw (c.format.ensures.text, to_z-of_z w64 c.args.number c.ranges.number) (plain-fitting c.args.number c.ranges.number).body
+    rw (c.format.ensures.text, to_z-of_z w64 c.args.number c.ranges.number)
+    (plain-fitting c.args.number c.ranges.number).body

@@ -8,5 +8,6 @@ use Rattle.telegram.proofs.writing.Fields.numbers.Given as goal
 
 abbrev pub invariant-loop-number : goal.invariant-loop-number
 invariant-loop-number l =
-    (l.fields ≡ l.fn.self ++ flat_map (λ z. comma ∷ signed_decimal z) (take l.number-index l.numbers))
+    (l.fields ≡ l.fn.self ++ flat_map (λ z. comma ∷ signed_decimal z)
+    (take l.number-index l.numbers))
     × (length l.fields ≤ length l.fn.self + l.number-index * (1 + MOST_NUMBER_BYTES))

@@ -9,5 +9,6 @@ load-turn-requires g c = let same = c.loop.invariant.1 in (
   search rules,
   search rules,
   looks_at g.K.Keeps.entries g.K.Keeps.base_of g.K.Keeps.caller_of _ _ c.args.ticket c.loop.seat.me
-      (subst (λ (s : Standing). IsWaiting c.args.ticket s) (ap (λ m. m.0.standing) (sym same)) c.requires.ticket) (ap (λ m. m.1) same ∙ c.requires.held),
+      (subst (λ (s : Standing). IsWaiting c.args.ticket s) (ap (λ m. m.0.standing) (sym same))
+      c.requires.ticket) (ap (λ m. m.1) same ∙ c.requires.held),
 )

@@ -1,0 +1,83 @@
+#!/usr/bin/env python3
+"""Times the proved program on plant files: one of the greatest plant, and the longest files of several shapes.
+
+Usage: bench/plants.py. It runs ./dp once to build the program, then measures the program itself over an empty stream:
+the user time and the peak memory of a run, and the line that it ends with.
+"""
+
+import pathlib
+import subprocess
+import tempfile
+
+ROOT = pathlib.Path(__file__).resolve().parent.parent
+PROGRAM = ROOT / "crates" / "dp_cli" / "out" / "dp_cli"
+MOST_BYTES = 1_048_576
+RUNS = 5
+
+AXIS = "kp = 200\nki = 10\nkd = 500\nlimit = 1000000000\n"
+
+
+def greatest_plant() -> str:
+    """Twelve thrusters, six of them with rings of two pieces each, so with 64 choices, and sixteen groups."""
+    wind = ", ".join("[0, 0, 0]" for _ in range(36))
+    text = f'format = 2\nname = "GREATEST"\nband = [15, 15, 10000]\nwind = [{wind}]\n'
+    text += "".join(f"[controller.{axis}]\n{AXIS}" for axis in ("surge", "sway", "yaw"))
+    text += "".join(f'[[section]]\nname = "S{k}"\n' for k in range(8))
+    text += "".join(f'[[tie]]\nname = "T{k}"\nends = ["S{k}", "S{k + 1}"]\nclosed = false\n' for k in range(7))
+    text += "".join(
+        f'[[generator]]\nname = "G{k}"\nsection = "S{k}"\npower = 9000\nrunning = true\n' for k in range(8)
+    )
+    for k in range(12):
+        ring = "[[400, 0], [0, 400], [-400, 0], [0, -400]]" if k < 6 else "[[0, 400], [0, -400]]"
+        text += (
+            f'[[thruster]]\nname = "P{k}"\nsection = "S{k % 8}"\nat = [{100 * k - 600}, {50 * k - 300}]\nrated = 4000\n'
+            f"thresholds = [25, 50, 75, 100]\nring = {ring}\nselected = true\n"
+        )
+    text += "".join(f'[[group]]\nname = "L{k}"\nmembers = ["S{k % 8}", "P{k % 12}"]\n' for k in range(16))
+    return text
+
+
+def repeated(piece: str) -> str:
+    return piece * (MOST_BYTES // len(piece))
+
+
+FILES = {
+    "the greatest plant": greatest_plant(),
+    "headers": repeated("[[tie]]\n"),
+    "other headers": "".join(f"[t{k}]\n" for k in range(115_968)),
+    "keys": "".join(f"k{k} = 1\n" for k in range(90_000)),
+    "a list of numbers": "x = [" + repeated("1, ")[: MOST_BYTES - 8] + "1]",
+    "nested lists": "x = " + "[" * 500_000 + "]" * 500_000,
+    "a comment": "#" + "a" * (MOST_BYTES - 1),
+    "a text": 'x = "' + "a" * (MOST_BYTES - 6) + '"',
+}
+
+
+def measure(path: pathlib.Path) -> tuple[float, float, str]:
+    """The mean user time in ms, the peak memory in MiB and the error output's line of runs over the file."""
+    script = (
+        "import resource, subprocess, sys\n"
+        "r = subprocess.run(sys.argv[1:], stdin=subprocess.DEVNULL, stdout=subprocess.DEVNULL,"
+        " stderr=subprocess.PIPE, text=True)\n"
+        "u = resource.getrusage(resource.RUSAGE_CHILDREN)\n"
+        "print(u.ru_utime, u.ru_maxrss, r.stderr.strip() or 'status 0', sep=';')\n"
+    )
+    words = ["python3", "-c", script, str(PROGRAM), "replay", str(path), "-"]
+    runs = [subprocess.run(words, capture_output=True, text=True, check=True).stdout.strip().split(";") for _ in range(RUNS)]
+    return 1e3 * sum(float(run[0]) for run in runs) / RUNS, max(float(run[1]) for run in runs) / 1024, runs[0][2]
+
+
+def main() -> None:
+    subprocess.run(
+        [ROOT / "dp", "replay", "demo", "-"], stdin=subprocess.DEVNULL, stdout=subprocess.DEVNULL, check=True
+    )
+    with tempfile.TemporaryDirectory() as folder:
+        for name, text in FILES.items():
+            path = pathlib.Path(folder) / "plant.toml"
+            path.write_text(text)
+            milliseconds, mebibytes, line = measure(path)
+            print(f"{name}, {len(text)} bytes: {milliseconds:.1f} ms user, {mebibytes:.1f} MiB at most, {line}")
+
+
+if __name__ == "__main__":
+    main()

@@ -1,0 +1,9 @@
+use Rattle.alarm_log.proofs.Rings.{changed_more}
+use Rattle.alarm_log.specs.Alarms.{consequence_cleared_of}
+use Rattle.alarm_log.proofs.alarm.clear_consequences.Goals as goal
+
+pub loop-alarm-preserved : goal.loop-alarm-preserved
+loop-alarm-preserved c =
+    let loop = c.loop-alarm in
+    changed_more consequence_cleared_of c.args.alarms.now loop.alarms loop.alarm-index _
+    c.loop-alarm-test.true loop.auto.alarms loop.invariant c.consequence_cleared.ensures

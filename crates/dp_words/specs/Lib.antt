@@ -1,0 +1,4 @@
+pub mod PlantSource
+pub mod Shown
+pub mod Statuses
+pub mod Words

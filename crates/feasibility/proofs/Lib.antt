@@ -1,0 +1,7 @@
+pub mod Divisors
+pub mod Means
+pub mod Taken
+pub mod Reached
+pub mod Scaled
+pub mod Steps
+pub mod Beyond

@@ -1,0 +1,5 @@
+pub mod Means
+pub mod Lowest
+pub mod Reached
+pub mod Steps
+pub mod Beyond

@@ -1,0 +1,32 @@
+-- What one choice says of a demand, and what the choices so far say.
+use Rattle.std.specs.Prelude.{ℕ, ◌<ℤ◌, map}
+use Rattle.plant_model.specs.declared.plant.Parts.{Parts}
+use Rattle.thrust_region.specs.Choices.{choice_of}
+use Rattle.thrust_region.specs.Pieces.{all_points}
+use Rattle.thrust_region.specs.declared.regions.Regions.{Regions}
+use Rattle.wrench_geometry.specs.declared.vector.Vec3.{Vec3}
+use Rattle.wrench_geometry.specs.Chosen.{images_of, levers_of}
+use Rattle.wrench_geometry.specs.Vectors.{dot_of, support_of}
+use Rattle.certificate.specs.declared.outcome.Outcome.{Outcome}
+use Rattle.certificate.specs.Outcomes.{IsAhead, IsValid, question_of}
+use Rattle.feasibility.specs.declared.choosing.Step.{Step}
+use Rattle.feasibility.specs.declared.choosing.Step.TheVariants.{Met, CutOff}
+use Rattle.feasibility.specs.Lowest.{IsLowest, IsPrimitive}
+
+-- the outcome is valid for each demand that is so far from the load of the fixed thrusts
+abbrev pub IsValidAhead : Parts → Regions → Vec3 → Outcome → Type 0
+IsValidAhead plant regions ahead outcome =
+    (demand : Vec3) → IsAhead (question_of plant regions demand) ahead →
+    IsValid (question_of plant regions demand) outcome
+
+-- no sum of thrusts in the choice is as far along the direction
+abbrev pub FallsShort : Parts → Regions → Vec3 → ℕ → Vec3 → Type 0
+FallsShort plant regions ahead k w =
+    support_of (images_of (levers_of plant) (choice_of (map all_points regions.list.items) k)) w <ℤ
+    dot_of w ahead
+
+-- the choice meets the demand, or the direction separates it, each in lowest terms
+abbrev pub IsStep : Parts → Regions → Vec3 → ℕ → Step → Type 0
+IsStep plant regions ahead k (Met outcome) = IsValidAhead plant regions ahead outcome × IsLowest
+    outcome
+IsStep plant regions ahead k (CutOff w) = FallsShort plant regions ahead k w × IsPrimitive w

@@ -1,0 +1,17 @@
+//! Whether what a loss leaves of a plant meets a demand, with what shows it. Nothing here
+//! overflows, and nothing takes memory.
+#![tactic(auto)]
+
+mod analysis;
+mod choosing;
+mod lowest;
+mod mean;
+mod outside;
+mod step;
+
+pub use analysis::{analyse, verdict};
+pub use choosing::choose;
+pub use step::{cut_off, held};
+
+#[cfg(test)]
+mod tests;

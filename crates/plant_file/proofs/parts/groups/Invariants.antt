@@ -1,0 +1,10 @@
+-- The elements so far.
+use Rattle.std.proofs.Common.{◌≡◌, map, take}
+use Rattle.toml.specs.View.{table_view, view}
+use Rattle.plant_file.specs.Described.{group_in}
+use Rattle.plant_file.proofs.parts.groups.Given as goal
+
+abbrev pub invariant-loop-element : goal.invariant-loop-element
+invariant-loop-element l =
+    l.groups.items ≡ map (group_in (table_view l.document))
+    (map view (take l.element-index l.element-items))
