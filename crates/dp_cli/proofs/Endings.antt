@@ -1,36 +1,31 @@
 -- What the statuses of a session's ending and of a failed one say, and those of faulty words.
-use Rattle.std.proofs.Common.{◌≡◌, ◌≢◌, ℕ, ◌<◌, ◌⊎◌, List, [], ◌++◌, length, true, false, Option}
-use Rattle.std.proofs.Common.{Some}
-use Rattle.std.proofs.Common.{None, Result, Ok, Err, refl, sym, ◌∙◌, ap, subst, inl, inr, codes}
-use Rattle.std.proofs.Common.{get_or, slice_index_or, arith}
-use Rattle.std.specs.Prelude.{map}
+use Rattle.std.proofs.Common.{◌≡◌, ◌≢◌, ℕ, ◌<◌, ◌⊎◌, List, [], ◌++◌, length, Option, Some, None}
+use Rattle.std.proofs.Common.{Ok, Err, refl, sym, ◌∙◌, ap, subst, inl, inr, arith}
 use Rattle.std.specs.Option.{IfSome}
-use Rattle.std.proofs.lemmas.List.{append-nil, get_or-map, length-append}
+use Rattle.std.proofs.lemmas.List.{append-nil, length-append}
 use Rattle.dp_io.specs.Streams.{Gave}
 use Rattle.frame.specs.Frames.{items, items_end}
-use Rattle.std.proofs.lemmas.Bool.{lt-ltb}
-use Rattle.plant_model.specs.declared.limits.TheConstants.{MOST_PLANT_BYTES, MOST_STREAM_BYTES}
+use Rattle.plant_model.specs.declared.limits.TheConstants.{MOST_STREAM_BYTES}
 use Rattle.plant_model.specs.declared.plant.Parts.{Parts}
 use Rattle.plant_core.specs.declared.call.Entry.{Entry}
-use Rattle.dp_cli.specs.declared.session.Ending.{Ending}
-use Rattle.dp_cli.specs.declared.session.Ending.TheVariants.{End, Fault, Long, Full}
 use Rattle.plant_file.specs.declared.fault.PlantFault.{PlantFault}
-use Rattle.plant_file.specs.declared.fault.PlantFault.TheVariants.{TooLong}
-use Rattle.plant_file.specs.PlantText.{plant_of}
-use Rattle.dp_words.specs.PlantSource.{IsPlantError, PlantSays}
+use Rattle.dp_words.specs.PlantSource.{IsPlantError}
+use Rattle.dp_words.specs.Shown.{HasRisen, IsEmptied, Shown}
+use Rattle.dp_words.specs.Words.{form_of}
 use Rattle.dp_words.specs.declared.form.Form.{Form}
-use Rattle.dp_words.specs.declared.form.Form.TheVariants.{Replay}
 use Rattle.dp_words.specs.declared.status.RunStatus.{RunStatus}
 use Rattle.dp_words.specs.declared.status.RunStatus.TheVariants.{Clear, Usage, Plant, WriteFault}
 use Rattle.dp_words.specs.declared.status.RunStatus.TheVariants.{NoMemory, ReadFault, StreamTooLong}
-use Rattle.dp_words.specs.Words.{form_of, plant_place}
-use Rattle.dp_cli.proofs.Fronts.{items-longer}
+use Rattle.dp_cli.specs.Plants.{HasPlant, WordsSay}
 use Rattle.dp_cli.specs.Sessions.{AreFew, AreTooMany, GaveTooManyItems, HasCause, HasHistory}
-use Rattle.dp_words.specs.Shown.{HasRisen, IsEmptied}
-use Rattle.dp_cli.specs.Sessions.{FileTells, HasAPlant, HasPlant, IsComplete, MayEnd, WordsSay}
-use Rattle.dp_cli.specs.Sessions.{WritesPartOf, WritesWholeOf}
-use Rattle.dp_words.specs.Shown.{Shown}
-use Rattle.dp_cli.specs.Sessions.{IsWriteError, TellsFew, WritesPart, WritesWhole, status_of}
+use Rattle.dp_cli.specs.Sessions.{IsComplete, MayEnd, TellsFew, WritesPart}
+use Rattle.dp_cli.specs.Sessions.{WritesWhole, status_of}
+use Rattle.dp_cli.specs.Writing.{IsWriteError}
+use Rattle.dp_cli.specs.declared.session.Ending.{Ending}
+use Rattle.dp_cli.specs.declared.session.Ending.TheVariants.{End, Fault, Long, Full}
+use Rattle.dp_cli.proofs.Fronts.{items-longer}
+use Rattle.dp_cli.proofs.Plants.{IsElse, missed-none, plant-found, plant-missed, plant-unasked}
+use Rattle.dp_cli.proofs.Plants.{unasked-none}
 
 -- the statuses of two endings differ where they do
 status_of-injective : (a b : Ending) → status_of a ≡ status_of b → a ≡ b
@@ -237,92 +232,21 @@ cause-clear Fault source bytes history e ends = absurd (cc)
 cause-clear Long source bytes history e ends = absurd (cc)
 cause-clear Full source bytes history e ends = absurd (cc)
 
--- words of the form name one plant
-one-word : (words : List (List ℕ)) (a b : List ℕ) → HasPlant words a → HasPlant words b → a ≡ b
-one-word words a b first second =
-    let same : Replay first.0 first.1 ≡ Replay second.0 second.1 = cc (first.2, second.2) in
-    let place : first.0 ≡ second.0 = cc (same) in
-    first.3 ∙ ap (λ (n : ℕ). slice_index_or words n []) place ∙ sym second.3
-
-has-form : (words : List (List ℕ)) (form : Form) (kind : ℕ) → form_of words ≡ Ok form
-    → form_of words ≡ Err kind → ⊥
-has-form words form kind is e = cc
-
--- the words have the form, with this word as the plant
-has-plant : (words : List (List ℕ)) (word : List ℕ) (form : Form) → form_of words ≡ Ok form
-    → word ≡ slice_index_or words (plant_place form) []
-    → HasPlant words word
-has-plant words word (Replay plant telegrams) is at = (plant, telegrams, is, at)
-
--- ---- what a plant file says
-
--- a file of too many bytes says no more than that
-too_long : (bytes : List ℕ) → MOST_PLANT_BYTES < length bytes → plant_of bytes ≡ Err TooLong
-too_long bytes long = rw (lt-ltb MOST_PLANT_BYTES (length bytes) long) refl
-
-all-or-front : (before after : Option (List ℕ)) (given bytes : List ℕ) → Gave before after given
-    → before ≡ Some bytes
-    → IfSome after (λ left. left ≡ []) ⊎ (MOST_PLANT_BYTES < length given)
-    → plant_of given ≡ plant_of bytes
-all-or-front before after given bytes gave told whole =
-    let from : Gave (Some bytes) after given =
-    subst (λ (b : Option (List ℕ)). Gave b after given) told gave in
-    elim whole [
-      | inl emptied ↦
-          let none : from.0 ≡ [] = subst (λ (a : Option (List ℕ)). IfSome a (λ left. left ≡ []))
-          from.1 emptied in
-          ap plant_of (sym (from.2 ∙ ap (λ (rest : List ℕ). given ++ rest) none
-          ∙ append-nil given))
-      | inr long ↦
-          let longer : MOST_PLANT_BYTES < length bytes =
-          omega (arith, long, ap length from.2, length-append given from.0) in
-          too_long given long ∙ sym (too_long bytes longer)
-    ]
-
--- what the plant source gave says what all that it told says
-says-one : (word : List ℕ) (first : Shown) (bytes : List ℕ) (a b : Result Parts PlantFault)
-    → PlantSays word first a → word ≢ codes "demo" → first.before ≡ Some bytes
-    → plant_of bytes ≡ b → a ≡ b
-says-one word first bytes a b (inl demo) other told is = absurd (other demo.0)
-says-one word first bytes a b (inr file) other told is =
-    let says = file.1 in
-    sym says.is
-    ∙ all-or-front first.before first.after says.bytes bytes says.file.given told says.file.whole
-    ∙ is
-
-pub told-one : (words : List (List ℕ)) (first : Shown) (a b : Result Parts PlantFault)
-    → WordsSay words first a → FileTells words first b → a ≡ b
-told-one words first a b says tells =
-    let same = one-word words says.word tells.word says.named tells.named in
-    says-one tells.word first tells.bytes a b
-    (subst (λ (word : List ℕ). PlantSays word first a) same says.says) tells.other tells.told
-    tells.is
-
-demo-says : (word : List ℕ) (first : Shown) (fault : PlantFault) → PlantSays word first (Err fault)
-    → word ≡ codes "demo" → ⊥
-demo-says word first fault (inl demo) is = cc (demo.1)
-demo-says word first fault (inr file) is = file.0 is
-
--- there is a plant where there is one, by whatever says so
-no-fault : (words : List (List ℕ)) (first : Shown) (fault : PlantFault)
-    → WordsSay words first (Err fault) → HasAPlant words first → ⊥
-no-fault words first fault says (inl demo) =
-    demo-says says.word first fault says.says (one-word words says.word (codes "demo") says.named
-    demo)
-no-fault words first fault says (inr file) =
-    let same : ◌≡◌ {A = Result Parts PlantFault} (Err fault) (Ok file.0) =
-    told-one words first (Err fault) (Ok file.0) says file.1 in
-    cc (same)
-
 -- ---- when the statuses come
 
--- no file faulty where a plant was found
-fault-told : (words : List (List ℕ)) (first : Shown) (plant : Parts) (fault : PlantFault)
-    → WordsSay words first (Ok plant) → FileTells words first (Err fault) → ⊥
-fault-told words first plant fault says tells =
-    let same : ◌≡◌ {A = Result Parts PlantFault} (Ok plant) (Err fault) =
-    told-one words first (Ok plant) (Err fault) says tells in
-    cc (same)
+-- an ending tells of neither the words nor the plant
+ended-else : (ending : Ending) (status : RunStatus) → status ≡ status_of ending → IsElse status
+ended-else ending status is = record {
+  usage = λ kind e. not-usage ending kind (sym is ∙ e);
+  plant = λ fault e. not-plant ending fault (sym is ∙ e);
+}
+
+-- nor does what can go wrong in writing
+pub stopped-else : (status : RunStatus) → IsWriteError status → IsElse status
+stopped-else status error = record {
+  usage = λ kind e. stopped-usage status kind error e;
+  plant = λ fault e. stopped-plant status fault error e;
+}
 
 -- when the status of an ending comes
 pub cause-ended : (words : List (List ℕ)) (form : Form) (status : RunStatus) (ending : Ending)
@@ -331,12 +255,7 @@ pub cause-ended : (words : List (List ℕ)) (form : Form) (status : RunStatus) (
     → WritesWhole plant ending source out → (ending ≡ Full → GaveTooManyItems source)
     → HasCause words status first source out
 cause-ended words form status ending plant first source out is_form says is whole full = record {
-  usage = λ kind. (
-    (λ e. absurd (not-usage ending kind (sym is ∙ e))),
-    (λ e. absurd (has-form words form kind is_form e)),
-  );
-  plant = λ fault e. absurd (not-plant ending fault (sym is ∙ e));
-  plant_told = λ fault tells fine. absurd (fault-told words first plant fault says tells);
+  plant = plant-found words form status plant first is_form says (ended-else ending status is);
   read_fault = λ e. inr (cause-fault ending source whole.stands.bytes whole.history (sym is ∙ e)
       whole.stands.ends);
   write_fault = λ e. absurd (not-write_fault ending (sym is ∙ e));
@@ -356,12 +275,7 @@ pub cause-stopped : (words : List (List ℕ)) (form : Form) (status : RunStatus)
     → IsWriteError status → (status ≡ WriteFault → HasRisen out)
     → HasCause words status first source out
 cause-stopped words form status plant first source out is_form says error failed = record {
-  usage = λ kind. (
-    (λ e. absurd (stopped-usage status kind error e)),
-    (λ e. absurd (has-form words form kind is_form e)),
-  );
-  plant = λ fault e. absurd (stopped-plant status fault error e);
-  plant_told = λ fault tells fine. absurd (fault-told words first plant fault says tells);
+  plant = plant-found words form status plant first is_form says (stopped-else status error);
   read_fault = λ e. absurd (stopped-whole status Fault error e);
   write_fault = failed;
   too_long = λ e. absurd (stopped-whole status Long error e);
@@ -373,57 +287,20 @@ cause-stopped words form status plant first source out is_form says error failed
 pub cause-no_plant : (words : List (List ℕ)) (form : Form) (status : RunStatus) (word : List ℕ)
     (first source out : Shown) → form_of words ≡ Ok form → HasPlant words word
     → IsPlantError word first status → HasCause words status first source out
-cause-no_plant words form ReadFault word first source out is_form named failed = record {
-  usage = λ kind. ((λ e. absurd (cc)), (λ e. absurd (has-form words form kind is_form e)));
-  plant = λ fault e. absurd (cc);
-  plant_told = λ fault tells fine. absurd (fine failed);
-  read_fault = λ e. inl failed;
-  write_fault = λ e. absurd (cc);
-  too_long = λ e. absurd (cc);
-  journal_full = λ e. absurd (cc);
-  clear = λ e. absurd (cc);
+cause-no_plant words form status word first source out is_form named error = record {
+  plant = plant-missed words form status word first is_form named error;
+  read_fault = λ e. inl (subst (IsPlantError word first) e error);
+  write_fault = λ e. absurd (subst (IsPlantError word first) e error);
+  too_long = λ e. absurd (subst (IsPlantError word first) e error);
+  journal_full = λ e. absurd (subst (IsPlantError word first) e error);
+  clear = λ e. absurd (subst (IsPlantError word first) e error);
 }
-cause-no_plant words form (Plant fault) word first source out is_form named says =
-    let words_say : WordsSay words first (Err fault) =
-    record { word = word; named = named; says = says } in
-    record {
-      usage = λ kind. ((λ e. absurd (cc)), (λ e. absurd (has-form words form kind is_form e)));
-      plant = λ other e. let same : fault ≡ other = cc in
-          subst (λ (f : PlantFault). WordsSay words first (Err f)) same words_say;
-      plant_told = λ other tells fine.
-          let same : ◌≡◌ {A = Result Parts PlantFault} (Err fault) (Err other) =
-          told-one words first (Err fault) (Err other) words_say tells in
-          let is : fault ≡ other = cc (same) in
-          inl (ap Plant is);
-      read_fault = λ e. absurd (cc);
-      write_fault = λ e. absurd (cc);
-      too_long = λ e. absurd (cc);
-      journal_full = λ e. absurd (cc);
-      clear = λ e. absurd (cc);
-    }
-cause-no_plant words form NoMemory word first source out is_form named ran = record {
-  usage = λ kind. ((λ e. absurd (cc)), (λ e. absurd (has-form words form kind is_form e)));
-  plant = λ fault e. absurd (cc);
-  plant_told = λ fault tells fine. inr refl;
-  read_fault = λ e. absurd (cc);
-  write_fault = λ e. absurd (cc);
-  too_long = λ e. absurd (cc);
-  journal_full = λ e. absurd (cc);
-  clear = λ e. absurd (cc);
-}
-cause-no_plant words form status word first source out is_form named none = absurd none
 
 -- when the words are faulty
 pub cause-usage : (words : List (List ℕ)) (kind : ℕ) (first source out : Shown)
     → form_of words ≡ Err kind → HasCause words (Usage kind) first source out
 cause-usage words kind first source out is = record {
-  usage = λ other. (
-    (λ e. let same : kind ≡ other = cc in is ∙ ap Err same),
-    (λ e. let same : kind ≡ other = cc (is, e) in ap Usage same),
-  );
-  plant = λ fault e. absurd (cc);
-  plant_told = λ fault tells fine.
-      absurd (has-form words (Replay tells.named.0 tells.named.1) kind tells.named.2 is);
+  plant = plant-unasked words kind first is;
   read_fault = λ e. absurd (cc);
   write_fault = λ e. absurd (cc);
   too_long = λ e. absurd (cc);
@@ -434,38 +311,13 @@ cause-usage words kind first source out is = record {
 -- faulty words name no plant
 pub complete-usage : (words : List (List ℕ)) (kind : ℕ) (first source out : Shown)
     → form_of words ≡ Err kind → IsComplete words (Usage kind) first source out
-complete-usage words kind first source out is = λ there first_fine tells source_fine out_fine.
-    elim there [
-      | inl demo ↦ absurd (has-form words (Replay demo.0 demo.1) kind demo.2 is)
-      | inr file ↦
-          let named = file.1.named in
-          absurd (has-form words (Replay named.0 named.1) kind named.2 is)
-    ]
+complete-usage words kind first source out is =
+    λ there first_fine tells source_fine out_fine. absurd (unasked-none words kind first is there)
 
 -- there is a plant, unless memory ran out
 pub complete-no_plant : (words : List (List ℕ)) (status : RunStatus) (word : List ℕ)
     (first source out : Shown) → HasPlant words word → IsPlantError word first status
     → IsComplete words status first source out
-complete-no_plant words ReadFault word first source out named failed =
-    λ there first_fine tells source_fine out_fine. absurd (first_fine failed)
-complete-no_plant words (Plant fault) word first source out named says =
-    λ there first_fine tells source_fine out_fine. absurd (no-fault words first fault
-    (record { word = word; named = named; says = says }) there)
-complete-no_plant words NoMemory word first source out named ran =
-    λ there first_fine tells source_fine out_fine. inr refl
-complete-no_plant words status word first source out named none = absurd none
-
--- what is seen of one of a list's elements
-seen-at : {A : Type 0} (f : A → List ℕ) (xs : List A) (place : ℕ) (x : A) → place < length xs
-    → x ≡ get_or xs place x
-    → f x ≡ slice_index_or (map f xs) place []
-seen-at f xs place x h is = ap f is ∙ sym (get_or-map f xs place x [] h)
-
--- the plant's word, as it was taken from the words
-pub named-at : {A : Type 0} (f : A → List ℕ) (xs : List A) (x : A) (form : Form) (word : List ℕ)
-    (place : ℕ) → form_of (map f xs) ≡ Ok form → place ≡ plant_place form → place < length xs
-    → x ≡ get_or xs place x → word ≡ f x → HasPlant (map f xs) word
-named-at f xs x form word place is_form at_place within at_x spelled =
-    has-plant (map f xs) word form is_form
-    (spelled ∙ seen-at f xs place x within at_x
-    ∙ ap (λ (n : ℕ). slice_index_or (map f xs) n []) at_place)
+complete-no_plant words status word first source out named error =
+    λ there first_fine tells source_fine out_fine.
+    inr (missed-none words status word first named error there first_fine)

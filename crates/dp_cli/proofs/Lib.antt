@@ -7,5 +7,6 @@ pub mod Endings
 pub mod Fronts
 pub mod Given
 pub mod Logs
+pub mod Plants
 pub mod Streams
-pub mod Writing
+pub mod Texted

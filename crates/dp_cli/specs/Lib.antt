@@ -1,3 +1,5 @@
+pub mod Plants
 pub mod Sessions
 pub mod Steps
 pub mod Texts
+pub mod Writing

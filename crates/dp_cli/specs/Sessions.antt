@@ -1,9 +1,8 @@
 -- Which history stands for which bytes, and what a session answers.
-use Rattle.std.specs.Prelude.{◌≡◌, ◌≢◌, ℕ, ◌<◌, ◌≤◌, List, [], ◌∷◌, ◌++◌, ◌⊎◌, ◌↔◌, length, map}
-use Rattle.std.specs.Prelude.{take, Option, Some, None, IfSome, Result, Ok, Err, OnOk, IfErr, codes}
-use Rattle.std.specs.Prelude.{slice_index_or}
+use Rattle.std.specs.Prelude.{◌≡◌, ◌≢◌, ℕ, ◌<◌, ◌≤◌, List, [], ◌∷◌, ◌++◌, ◌⊎◌, length, map, take}
+use Rattle.std.specs.Prelude.{None, IfSome, Result, Ok, Err}
 use Rattle.std.specs.List.{filter}
-use Rattle.dp_io.specs.Streams.{Rose, Gave, Grew}
+use Rattle.dp_io.specs.Streams.{Gave}
 use Rattle.frame.specs.Frames.{items, items_end}
 use Rattle.frame.specs.declared.item.Item.{Item}
 use Rattle.frame.specs.declared.item.Item.TheVariants.{Body, Damaged}
@@ -23,12 +22,9 @@ use Rattle.dp_cli.specs.declared.session.Ending.TheVariants.{End, Fault, Long, F
 use Rattle.dp_words.specs.declared.status.RunStatus.{RunStatus}
 use Rattle.dp_words.specs.declared.status.RunStatus.TheVariants as statuses
 use Rattle.plant_file.specs.declared.fault.PlantFault.{PlantFault}
-use Rattle.dp_words.specs.declared.form.Form.TheVariants.{Replay}
-use Rattle.plant_file.specs.PlantText.{plant_of}
-use Rattle.dp_words.specs.PlantSource.{PlantSays}
 use Rattle.dp_words.specs.Shown.{HasRisen, IsEmptied, Shown, Took, TookPart}
-use Rattle.dp_words.specs.Words.{form_of}
 use Rattle.dp_words.specs.Statuses.{IsTold}
+use Rattle.dp_cli.specs.Plants.{HasAPlant, HasPlantCause, NamesNoFile, WordsSay}
 use Rattle.dp_cli.specs.Texts.{log_text, report_text}
 
 -- ---- the history of a stream
@@ -128,46 +124,6 @@ status_of Fault = statuses.ReadFault
 status_of Long = statuses.StreamTooLong
 status_of Full = statuses.JournalFull
 
--- what can go wrong in writing: a fault of the sink, or no memory for a text
-abbrev pub IsWriteError : RunStatus → Type 0
-IsWriteError status = (status ≡ statuses.WriteFault) ⊎ (status ≡ statuses.NoMemory)
-
--- What a call that writes to a sink ends with: at a write fault the sink's count of faults rose.
-pub record EndsWriting {T : Type 0} (result : Result T RunStatus) (sink : Shown) : Type 0 where
-  pub failed : result ≡ Err statuses.WriteFault → HasRisen sink
-  pub errors : IfErr result IsWriteError
-  pub counted : sink.faults_before ≤ sink.faults_after
-
--- What a call that writes a text to a sink ends with: the sink took it whole, or at a write fault
--- its beginning.
-pub record EndsText (result : Result (Unit {0}) RunStatus) (sink : Shown) (text : List ℕ) : Type
-    0 where
-  pub whole : OnOk result (Took sink text)
-  pub part : result ≡ Err statuses.WriteFault → TookPart sink text
-  pub writing : EndsWriting result sink
-
--- the words have the form of `replay`, with this word as the plant
-abbrev pub HasPlant : List (List ℕ) → List ℕ → Type 0
-HasPlant words word = (plant : ℕ) × (telegrams : ℕ)
-    × (form_of words ≡ Ok (Replay plant telegrams)) × (word ≡ slice_index_or words plant [])
-
--- what the plant's word among the words, and the plant source, say of the plant
-pub record WordsSay (words : List (List ℕ)) (first : Shown) (answer : Result Parts PlantFault)
-    : Type 0 where
-  pub word : List ℕ
-  pub named : HasPlant words word
-  pub says : PlantSays word first answer
-
--- the words name a file as the plant, and the plant source, which tells its bytes, says this of it
-pub record FileTells (words : List (List ℕ)) (first : Shown) (answer : Result Parts PlantFault)
-    : Type 0 where
-  pub word : List ℕ
-  pub named : HasPlant words word
-  pub other : word ≢ codes "demo"
-  pub bytes : List ℕ
-  pub told : first.before ≡ Some bytes
-  pub is : plant_of bytes ≡ answer
-
 -- What was written is the log and report of a history of the plant that the words and the plant
 -- source say.
 pub record WritesWholeOf (words : List (List ℕ)) (ending : Ending) (first source out : Shown)
@@ -226,26 +182,12 @@ TellsFew source = IfSome source.before AreFew × (source.before ≢ None)
 -- When each status comes.
 pub record HasCause (words : List (List ℕ)) (status : RunStatus) (first source out : Shown) : Type
     0 where
-  -- exactly where the words have no written form, with what is wrong with them
-  pub usage : (kind : ℕ) → (status ≡ statuses.Usage kind) ↔ (form_of words ≡ Err kind)
-  -- only where they have one whose plant is a file, and the file has this fault
-  pub plant : (fault : PlantFault) → status ≡ statuses.Plant fault
-      → WordsSay words first (Err fault)
-  -- and always there, where the plant source tells its bytes and doesn't fail, unless memory runs
-  -- out
-  pub plant_told : (fault : PlantFault) → FileTells words first (Err fault) → ¬ HasRisen first
-      → (status ≡ statuses.Plant fault) ⊎ (status ≡ statuses.NoMemory)
+  pub plant : HasPlantCause words status first
   pub read_fault : status ≡ statuses.ReadFault → HasRisen first ⊎ HasRisen source
   pub write_fault : status ≡ statuses.WriteFault → HasRisen out
   pub too_long : status ≡ statuses.StreamTooLong → GaveTooMany source
   pub journal_full : status ≡ statuses.JournalFull → GaveTooManyItems source
   pub clear : status ≡ statuses.Clear → IsEmptied source
-
--- the words name the built-in plant, or a file that the plant source tells and that describes a
--- plant
-abbrev pub HasAPlant : List (List ℕ) → Shown → Type 0
-HasAPlant words first =
-    HasPlant words (codes "demo") ⊎ ((plant : Parts) × FileTells words first (Ok plant))
 
 -- A plant, a source that has at most as many bytes as a stream may have and items as a history has
 -- room for, and counts of faults that don't rise give Clear, unless memory runs out.
@@ -263,10 +205,6 @@ pub record EndsSession (words : List (List ℕ)) (status : RunStatus) (first sou
   pub history : HasHistory words status first source out
   pub causes : HasCause words status first source out
   pub complete : IsComplete words status first source out
-
--- no word names a file as the plant
-abbrev pub NamesNoFile : List (List ℕ) → Type 0
-NamesNoFile words = (word : List ℕ) → HasPlant words word → word ≡ codes "demo"
 
 -- How a call of the program ends with this status: the session as above, the line told, and the
 -- plant source, of this value before and after it, as it was where no word names it.

@@ -14,6 +14,7 @@ ghost use Rattle.dp_words.specs.declared.status.RunStatus.{RunStatus as Status};
 pub mod log_text;
 mod replay;
 mod session;
+mod writing;
 
 use dp_io::{Gate, LazyFile, NoGate, Sink, Source, StdErr, StdOut};
 use dp_words::{RunStatus, file_words, tell};

@@ -1,7 +1,8 @@
 //! The top calls of the program.
 ghost use Rattle.std.specs.Prelude.{◌≡◌, map, string_bytes};
 ghost use Rattle.dp_words.specs.Shown.{shown};
-ghost use Rattle.dp_cli.specs.Sessions.{EndsCall, EndsSession, NamesNoFile};
+ghost use Rattle.dp_cli.specs.Plants.{NamesNoFile};
+ghost use Rattle.dp_cli.specs.Sessions.{EndsCall, EndsSession};
 
 use crate::session::session;
 use dp_io::{Gate, Sink, Source};

@@ -1,8 +1,7 @@
 //! A session over one stream: each item of the stream is a call of the machine, and the history is written at the
 //! end.
-ghost use Rattle.std.specs.Prelude.{◌≡◌, ◌≤◌, List, ℕ, [], ◌∷◌, ◌++◌, OnOk};
-ghost use Rattle.std.specs.Prelude.{OnErr, IfOk, IfErr};
-ghost use Rattle.dp_io.specs.Streams.{Gave, Rose};
+ghost use Rattle.std.specs.Prelude.{◌≡◌, ◌≤◌, List, ℕ, [], ◌∷◌, ◌++◌};
+ghost use Rattle.std.specs.Prelude.{IfOk};
 ghost use Rattle.frame.specs.Frames.{StandsFor, items};
 ghost use Rattle.frame.specs.declared.item.Item.{Item as FrameItem};
 ghost use Rattle.telegram.specs.declared.telegram.Telegram.{Telegram as TelegramKind};
@@ -11,13 +10,14 @@ ghost use Rattle.dp_cli.specs.Sessions.{asked_for, caller_of, AnswersItems};
 ghost use Rattle.dp_words.specs.Shown.{shown};
 ghost use Rattle.dp_cli.specs.Sessions.{GaveTooManyItems};
 ghost use Rattle.dp_cli.specs.Steps.{TakesBytes, TakesEnd, TakesItem, TakesStream};
-ghost use Rattle.dp_words.specs.Shown.{Took, TookPart};
-ghost use Rattle.dp_cli.specs.Sessions.{status_of, written, EndsText, EndsWriting};
+ghost use Rattle.dp_cli.specs.Sessions.{status_of, written};
 ghost use Rattle.dp_cli.specs.Sessions.{WritesWhole, WritesPart};
 ghost use Rattle.dp_cli.specs.Texts.{log_text, report_text};
+ghost use Rattle.dp_cli.specs.Writing.{EndsText, EndsWriting};
 
 use crate::log_text;
-use dp_io::{Failed, NoMemory, Sink, Source, send_all};
+use crate::writing::send_lines;
+use dp_io::{NoMemory, Sink, Source, send_all};
 use dp_words::RunStatus;
 use frame::{Framer, Item};
 use plant_core::{Call, Core, Note, Reply};
@@ -149,22 +149,6 @@ fn take_stream<S: Source>(core: &mut Core, source: &mut S) -> Result<Ending, NoM
         room -= count;
     }
     Ok(Ending::Fault)
-}
-
-/// Hands over each line of the text as a piece of its own.
-fn send_lines<S: Sink>(sink: &mut S, text: &[u8]) -> Result<(), Failed>
-    ensures whole { OnOk result (Took (shown S.taken S.faults sink.old sink.new) text.now) }
-    ensures part { OnErr result (TookPart (shown S.taken S.faults sink.old sink.new) text.now) }
-    ensures failed { OnErr result (Rose (S.faults sink.old) (S.faults sink.new)) }
-    ensures counted { S.faults sink.old ≤ S.faults sink.new }
-{
-    let mut rest = text;
-    while let Some(end) = rest.iter().position(|byte| *byte == b'\n') {
-        let (line, after) = rest.split_at(end + 1);
-        send_all(sink, line)?;
-        rest = after;
-    }
-    send_all(sink, rest)
 }
 
 /// Writes the log of the history, each line as a piece of its own. The error is `WriteFault` or `NoMemory`.

@@ -5,12 +5,14 @@ use Rattle.std.proofs.Math.Path.{refl}
 use Rattle.std.specs.Prelude.{map, string_bytes}
 use Rattle.dp_words.specs.Shown.{shown}
 use Rattle.dp_words.specs.declared.status.RunStatus.TheVariants.{WriteFault}
-use Rattle.dp_cli.specs.Sessions.{WordsSay, WritesPart}
+use Rattle.dp_cli.specs.Plants.{WordsSay}
+use Rattle.dp_cli.specs.Sessions.{WritesPart}
 use Rattle.dp_cli.specs.declared.session.Ending.TheVariants.{Full}
 use Rattle.dp_cli.proofs.Endings.{cause-ended, cause-no_plant, cause-stopped, cause-usage}
 use Rattle.dp_cli.proofs.Endings.{complete-ended, complete-no_plant, complete-stopped}
 use Rattle.dp_cli.proofs.Endings.{complete-usage, history-ended, history-no_plant}
-use Rattle.dp_cli.proofs.Endings.{history-stopped, history-usage, named-at}
+use Rattle.dp_cli.proofs.Endings.{history-stopped, history-usage}
+use Rattle.dp_cli.proofs.Plants.{named-at}
 use Rattle.dp_cli.proofs.replay.replay.Goals as goal
 
 pub returns-in-Err-clause-session : goal.returns-in-Err-clause-session

@@ -3,9 +3,9 @@ use Rattle.std.proofs.Common.{◌++◌, Result, Err, sym, subst}
 use Rattle.std.proofs.lemmas.Result.{err_from_is_err_and}
 use Rattle.dp_words.specs.declared.status.RunStatus.{RunStatus}
 use Rattle.dp_words.specs.Shown.{shown}
-use Rattle.dp_cli.specs.Sessions.{EndsText}
+use Rattle.dp_cli.specs.Writing.{EndsText}
 use Rattle.dp_cli.specs.Texts.{log_text, report_text}
-use Rattle.dp_cli.proofs.Writing.{text-back, text-front}
+use Rattle.dp_cli.proofs.Texted.{text-back, text-front}
 use Rattle.dp_cli.proofs.session.write_history.Goals as goal
 
 pub returns-in_err-write_log : goal.returns-in_err-write_log

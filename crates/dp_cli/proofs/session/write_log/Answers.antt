@@ -10,7 +10,7 @@ use Rattle.dp_cli.specs.Texts.{log_head, entry_text}
 use Rattle.dp_cli.proofs.Given.{part-front}
 use Rattle.dp_cli.proofs.Answers.{answer-at}
 use Rattle.dp_cli.proofs.Logs.{lines-part, lines-whole, part-as}
-use Rattle.dp_cli.proofs.Writing.{text-failed}
+use Rattle.dp_cli.proofs.Texted.{text-failed}
 use Rattle.dp_cli.proofs.session.write_log.Goals as goal
 
 pub entry_text-requires : goal.entry_text-requires

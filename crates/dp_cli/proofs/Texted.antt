@@ -5,7 +5,7 @@ use Rattle.dp_io.proofs.Grown.{Grew-append}
 use Rattle.dp_words.specs.declared.status.RunStatus.{RunStatus}
 use Rattle.dp_words.specs.declared.status.RunStatus.TheVariants.{WriteFault}
 use Rattle.dp_words.specs.Shown.{HasRisen, Shown, TookPart}
-use Rattle.dp_cli.specs.Sessions.{EndsText}
+use Rattle.dp_cli.specs.Writing.{EndsText}
 use Rattle.dp_cli.proofs.Given.{part-front, part-back}
 
 -- a sink that showed this

@@ -5,7 +5,7 @@ use Rattle.dp_io.specs.Streams.{Grew}
 use Rattle.dp_io.proofs.Grown.{Grew-append}
 use Rattle.dp_words.specs.Shown.{GrewInPart}
 use Rattle.dp_cli.proofs.Given.{lines-more, part-front, part-back}
-use Rattle.dp_cli.proofs.session.send_lines.Goals as goal
+use Rattle.dp_cli.proofs.writing.send_lines.Goals as goal
 
 pub returns-in_err-send_all-clause-part : goal.returns-in_err-send_all-clause-part
 returns-in_err-send_all-clause-part g c =
