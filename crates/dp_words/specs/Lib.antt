@@ -1,4 +1,5 @@
 pub mod PlantSource
 pub mod Shown
+pub mod Sorting
 pub mod Statuses
 pub mod Words

@@ -4,13 +4,14 @@ use Rattle.frame.specs.Frames.{line_feed}
 use Rattle.plant_file.specs.Texts.{fault_text}
 use Rattle.dp_words.specs.Shown.{HasRisen, Shown, Took}
 use Rattle.dp_words.specs.declared.status.RunStatus.{RunStatus}
-use Rattle.dp_words.specs.declared.status.RunStatus.TheVariants.{Clear, Usage, Plant, ReadFault}
-use Rattle.dp_words.specs.declared.status.RunStatus.TheVariants.{WriteFault, NoMemory}
+use Rattle.dp_words.specs.declared.status.RunStatus.TheVariants.{Clear, LossFound, Usage, Plant}
+use Rattle.dp_words.specs.declared.status.RunStatus.TheVariants.{ReadFault, WriteFault, NoMemory}
 use Rattle.dp_words.specs.declared.status.RunStatus.TheVariants.{JournalFull, StreamTooLong}
 
 -- the exit status
 abbrev pub status_code : RunStatus → ℕ
 status_code Clear = 0
+status_code LossFound = 1
 status_code (Usage kind) = 2
 status_code (Plant fault) = 3
 status_code ReadFault = 4
@@ -28,9 +29,10 @@ usage_text kind = if kind == 1 then codes "1" else (if kind == 2 then codes "2" 
 abbrev pub line : List ℕ → List ℕ
 line text = text ++ line_feed ∷ []
 
--- the line on the error output, none for a clear end
+-- the line on the error output, none where all was read and written
 abbrev pub status_text : RunStatus → List ℕ
 status_text Clear = []
+status_text LossFound = []
 status_text (Usage kind) = line (codes "dp: usage " ++ usage_text kind)
 status_text (Plant fault) = line (codes "dp: plant " ++ fault_text fault)
 status_text ReadFault = line (codes "dp: read fault")

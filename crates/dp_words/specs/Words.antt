@@ -1,12 +1,17 @@
 -- The words of the command line: which have a written form, and what the form says.
-use Rattle.std.specs.Prelude.{ℕ, ◌<◌, List, [], ◌∷◌, ◌++◌, length, Bool, not, ◌&&◌, ◌==◌, nat_lt}
+use Rattle.std.specs.Prelude.{ℕ, ◌<◌, List, [], ◌∷◌, ◌++◌, length, Bool, true, false, not, ◌&&◌, ◌==◌, nat_lt}
 use Rattle.std.specs.Prelude.{slice_index, slice_index_or, Option, Some, None, Result, Ok, Err}
 use Rattle.std.specs.Prelude.{if◌then◌else◌, codes}
 use Rattle.std.specs.List.{filter, enumerate_from, before_first, after_first}
 use Rattle.std.specs.Str.{bytes_eq}
 use Rattle.plant_model.specs.Names.{dash}
+use Rattle.plant_model.specs.Versions.{IsDemand}
+use Rattle.plant_model.specs.declared.limits.TheConstants.{MOST_FORCE, MOST_MOMENT}
+use Rattle.plant_model.specs.declared.wrench.Wrench.{Wrench}
+use Rattle.telegram.specs.Telegrams.{◌>>=◌, within_of}
+use Rattle.telegram.specs.declared.telegram.Reject.{Reject}
 use Rattle.dp_words.specs.declared.form.Form.{Form}
-use Rattle.dp_words.specs.declared.form.Form.TheVariants.{Replay}
+use Rattle.dp_words.specs.declared.form.Form.TheVariants.{Check, Replay}
 
 -- a word with its place in the command line
 abbrev pub Placed : Type 0
@@ -24,14 +29,14 @@ abbrev pub is_option : Placed → Bool
 is_option word = nat_lt 1 (length word.1) && slice_index word.1 0 == dash
 
 -- the option words: those before the first `--` that look so
-abbrev pub options : List (List ℕ) → List Placed
-options words = filter is_option (before_first is_dashes (placed words))
+abbrev pub options : List Placed → List Placed
+options words = filter is_option (before_first is_dashes words)
 
 -- the places: the other words before the first `--`, and all after it
-abbrev pub places : List (List ℕ) → List Placed
+abbrev pub places : List Placed → List Placed
 places words =
-    filter (λ word. not (is_option word)) (before_first is_dashes (placed words))
-    ++ after_first is_dashes (placed words)
+    filter (λ word. not (is_option word)) (before_first is_dashes words)
+    ++ after_first is_dashes words
 
 abbrev pub is_dash : Placed → Bool
 is_dash word = bytes_eq word.1 (codes "-")
@@ -45,20 +50,61 @@ replay_form [] (plant ∷ telegrams ∷ []) =
 replay_form [] (plant ∷ telegrams ∷ more ∷ rest) = Err 3
 replay_form (option ∷ more) all = Err 3
 
+-- whether `--json` is asked for, where the options are none but it, at most once
+abbrev pub json_of : List Placed → Option Bool
+json_of [] = Some false
+json_of (option ∷ []) = if bytes_eq option.1 (codes "--json") then Some true else None
+json_of (option ∷ more ∷ rest) = None
+
+-- the demand that three words spell, within its limits
+abbrev pub demand_of : List ℕ → List ℕ → List ℕ → Result Wrench Reject
+demand_of x y n = do
+  surge ← within_of MOST_FORCE x
+  sway ← within_of MOST_FORCE y
+  yaw ← within_of MOST_MOMENT n
+  Ok (record { x = surge; y = sway; n = yaw })
+
+-- a check of the plant at this place, where there are a demand and right options
+abbrev pub check_of : ℕ → Result Wrench Reject → Option Bool → Result Form ℕ
+check_of plant (Ok demand) (Some json) = Ok (Check plant demand json)
+check_of plant (Ok demand) None = Err 3
+check_of plant (Err reject) json = Err 3
+
+-- `check` has four places, of which the last three are the demand, and may have the option
+-- `--json`; a `-` is no number, so that at most one place is `-`
+abbrev pub check_form : List Placed → List Placed → Result Form ℕ
+check_form options [] = Err 3
+check_form options (plant ∷ []) = Err 3
+check_form options (plant ∷ x ∷ []) = Err 3
+check_form options (plant ∷ x ∷ y ∷ []) = Err 3
+check_form options (plant ∷ x ∷ y ∷ n ∷ []) =
+    check_of plant.0 (demand_of x.1 y.1 n.1) (json_of options)
+check_form options (plant ∷ x ∷ y ∷ n ∷ more ∷ rest) = Err 3
+
 -- the written form of the words, or what is wrong: 1 no word, 2 an unknown command, 3 other words
 -- than its form
 abbrev pub form_of : List (List ℕ) → Result Form ℕ
 form_of [] = Err 1
 form_of (command ∷ words) =
-    if bytes_eq command (codes "replay") then replay_form (options words) (places words) else Err 2
+    let rest = placed words in
+    if bytes_eq command (codes "replay") then replay_form (options rest) (places rest)
+    else
+    (if bytes_eq command (codes "check") then check_form (options rest) (places rest) else Err 2)
 
 -- the places that the form names are among that many words
 abbrev pub NamesBelow : Form → ℕ → Type 0
 NamesBelow (Replay plant telegrams) count = (plant < count) × (telegrams < count)
+NamesBelow (Check plant demand json) count = plant < count
+
+-- what the form asks of the thrusters, if anything, is within the demand's limits
+abbrev pub AsksWithin : Form → Type 0
+AsksWithin (Replay plant telegrams) = Unit {0}
+AsksWithin (Check plant demand json) = IsDemand demand
 
 -- the place of the plant's word
 abbrev pub plant_place : Form → ℕ
 plant_place (Replay plant telegrams) = plant
+plant_place (Check plant demand json) = plant
 
 -- the word at a place, or an empty one where there is none
 abbrev pub word_at : List (List ℕ) → Option ℕ → List ℕ
@@ -68,4 +114,5 @@ word_at words (Some place) = slice_index_or words place []
 -- the places of the words that name files: of the plant and of the telegrams
 abbrev pub files_of : Result Form ℕ → List (Option ℕ)
 files_of (Ok (Replay plant telegrams)) = Some plant ∷ Some telegrams ∷ None ∷ []
+files_of (Ok (Check plant demand json)) = Some plant ∷ None ∷ None ∷ []
 files_of (Err kind) = None ∷ None ∷ None ∷ []

@@ -1,15 +1,32 @@
 //! The words of the command line.
-ghost use Rattle.std.specs.Prelude.{◌≡◌, ℕ, ◌+◌, ◌<◌, ◌≤◌, [], ◌∷◌, ◌++◌, length, map, IfOk};
+ghost use Rattle.std.specs.Prelude.{◌≡◌, ℕ, ◌<◌, List, [], ◌∷◌, ◌++◌, length, map, take, IfOk};
 ghost use Rattle.std.specs.Prelude.{string_bytes};
-ghost use Rattle.std.specs.List.{enumerate_from, list_any, position, position_or_len};
-ghost use Rattle.dp_words.specs.Words.{placed, is_dashes, is_option, replay_form, form_of};
-ghost use Rattle.dp_words.specs.Words.{plant_place, files_of, NamesBelow};
+ghost use Rattle.telegram.specs.Telegrams.{within_of};
+ghost use Rattle.dp_words.specs.Words.{Placed as PlacedWord, is_dash, is_dashes, is_option};
+ghost use Rattle.dp_words.specs.Words.{placed, options, places, json_of, demand_of, replay_form};
+ghost use Rattle.dp_words.specs.Words.{check_form, form_of, plant_place, files_of, NamesBelow};
+ghost use Rattle.dp_words.specs.Words.{AsksWithin};
+ghost use Rattle.dp_words.specs.Sorting.{HasSorted, pair};
 
-/// What words of a written form ask for. The numbers are places among the words.
+use arrayvec::ArrayVec;
+use plant_model::limits::{MOST_FORCE, MOST_MOMENT};
+use plant_model::wrench::Wrench;
+use telegram::{Reject, number};
+
+/// What words of a written form ask for. `plant` and `telegrams` are places among the words.
 #[derive(Clone, Copy, Debug, PartialEq, Eq)]
 pub enum Form {
     /// `replay PLANT TELEGRAMS`: a session over recorded telegrams.
-    Replay { plant: usize, telegrams: usize },
+    Replay {
+        plant: usize,
+        telegrams: usize,
+    },
+    /// `check PLANT X Y N`: what each loss would leave of a demand. The text is JSON for `--json`.
+    Check {
+        plant: usize,
+        demand: Wrench,
+        json: bool,
+    },
 }
 
 impl Form {
@@ -19,69 +36,155 @@ impl Form {
         ensures within { (count : ℕ) → NamesBelow self count → result < count }
     {
         match self {
-            Form::Replay { plant, .. } => plant,
+            Form::Replay { plant, .. } | Form::Check { plant, .. } => plant,
         }
     }
 }
 
-/// A word that starts with `-` and is longer than that.
-fn is_option(word: &str) -> bool
-    ensures { result ≡ is_option (0, word.now) }
-{
-    word.len() > 1 && word.as_bytes()[0] == b'-'
+/// The options that are kept of the words: one more than any command has.
+const KEPT_OPTIONS: usize = 2;
+
+/// The places that are kept of the words: one more than any command has.
+const KEPT_PLACES: usize = 5;
+
+/// A word with its place among all the words.
+#[derive(Clone, Copy, Default)]
+struct Placed<'a> {
+    place: usize,
+    word: &'a str,
 }
 
-fn has_option(words: &[String]) -> bool
-    ensures { result ≡ list_any (λ word. is_option (0, string_bytes word)) words.now }
-{
-    words.iter().any(|word| is_option(word.as_str()))
-}
+impl Placed<'_> {
+    fn is_dash(&self) -> bool
+        ensures { result ≡ is_dash (pair self.now) }
+    {
+        self.word == "-"
+    }
 
-fn find_dashes(words: &[String]) -> Option<usize>
-    ensures { result ≡ position (λ word. is_dashes (0, string_bytes word)) words.now }
-{
-    words.iter().position(|word| word.as_str() == "--")
-}
+    fn is_dashes(&self) -> bool
+        ensures { result ≡ is_dashes (pair self.now) }
+    {
+        self.word == "--"
+    }
 
-/// The index of the first word `--`, or the count of the words where there is none.
-fn first_dashes(words: &[String]) -> usize
-    ensures found { result ≡ position_or_len (λ word. is_dashes (0, string_bytes word)) words.now }
-    ensures within { result ≤ length words.now }
-{
-    find_dashes(words).unwrap_or(words.len())
-}
-
-/// `replay` with two words, each after its place: error 3 where both are `-`.
-fn replay_of(
-    plant: usize,
-    plant_word: &str,
-    telegrams: usize,
-    telegrams_word: &str,
-) -> Result<Form, u32>
-    ensures form { result ≡ replay_form []
-        ((plant, plant_word.now) ∷ (telegrams, telegrams_word.now) ∷ []) }
-    ensures places { IfOk result (λ form. form ≡ Form.Replay plant telegrams) }
-{
-    if plant_word == "-" && telegrams_word == "-" {
-        Err(3)
-    } else {
-        Ok(Form::Replay { plant, telegrams })
+    /// It starts with `-` and is longer than that.
+    fn is_option(&self) -> bool
+        ensures { result ≡ is_option (pair self.now) }
+    {
+        self.word.len() > 1 && self.word.as_bytes()[0] == b'-'
     }
 }
 
-/// The form of `replay` with the words before the first `--`, of which none is an option, and those after it.
-fn replay_form(before: &[String], after: &[String]) -> Result<Form, u32>
-    ensures form { let later = enumerate_from (length before.now + 2)
-        (map string_bytes after.now) in result ≡ replay_form []
-        (placed (map string_bytes before.now) ++ later) }
-    ensures within { IfOk result (λ form. (count : ℕ) → length before.now < count
-        → (0 < length after.now → length before.now + 1 + length after.now < count)
-        → NamesBelow form count) }
+/// The words after a command so far, sorted: the first options and the first places.
+#[derive(Drop)]
+struct Sorted<'a> {
+    had_dashes: bool,
+    options: ArrayVec<Placed<'a>, KEPT_OPTIONS>,
+    places: ArrayVec<Placed<'a>, KEPT_PLACES>,
+}
+
+impl<'a> Sorted<'a> {
+    fn new() -> Sorted<'a>
+        ensures { HasSorted result [] }
+    {
+        Sorted {
+            had_dashes: false,
+            options: ArrayVec::new(),
+            places: ArrayVec::new(),
+        }
+    }
+
+    /// Sorts the next word. An option or a place that isn't kept is dropped.
+    fn sort(&mut self, word: Placed<'a>)
+        ensures { (words : List PlacedWord) → HasSorted self.old words
+            → HasSorted self.new (words ++ pair word.entry ∷ []) }
+    {
+        if self.had_dashes {
+            let _ = self.places.try_push(word);
+        } else if word.is_dashes() {
+            self.had_dashes = true;
+        } else if word.is_option() {
+            let _ = self.options.try_push(word);
+        } else {
+            let _ = self.places.try_push(word);
+        }
+    }
+}
+
+/// The words that stand after a command, sorted.
+fn sort_words(words: &[String]) -> Sorted<'_>
+    ensures options { map pair result.options.items
+        ≡ take KEPT_OPTIONS (options (placed (map string_bytes words.now))) }
+    ensures places { map pair result.places.items
+        ≡ take KEPT_PLACES (places (placed (map string_bytes words.now))) }
 {
-    match (before, after) {
-        ([plant, telegrams], []) => replay_of(1, plant.as_str(), 2, telegrams.as_str()),
-        ([plant], [telegrams]) => replay_of(1, plant.as_str(), 3, telegrams.as_str()),
-        ([], [plant, telegrams]) => replay_of(2, plant.as_str(), 3, telegrams.as_str()),
+    let mut sorted = Sorted::new();
+    for (index, word) in words.iter().enumerate() {
+        sorted.sort(Placed {
+            place: index + 1,
+            word: word.as_str(),
+        });
+    }
+    sorted
+}
+
+/// The form of `replay` with these options and places.
+fn replay_form(options: &[Placed<'_>], places: &[Placed<'_>]) -> Result<Form, u32>
+    ensures { result ≡ replay_form (map pair options.now) (map pair places.now) }
+{
+    match (options, places) {
+        ([], [plant, telegrams]) if !(plant.is_dash() && telegrams.is_dash()) => Ok(Form::Replay {
+            plant: plant.place,
+            telegrams: telegrams.place,
+        }),
+        _ => Err(3),
+    }
+}
+
+/// Whether `--json` is among the options. None where another option is, or one more.
+fn json_of(options: &[Placed<'_>]) -> Option<bool>
+    ensures { result ≡ json_of (map pair options.now) }
+{
+    match options {
+        [] => Some(false),
+        [option] if option.word == "--json" => Some(true),
+        _ => None,
+    }
+}
+
+/// The number that a word spells, which is at most so far from 0.
+fn within(word: &str, most: i32) -> Result<i32, Reject>
+    ensures { result ≡ within_of most word.now }
+{
+    let most = i64::from(most);
+    let value = number(word.as_bytes(), -most, most)?;
+    Ok(value as i32)
+}
+
+/// The demand that the words spell, within its limits.
+fn demand_of(x: &str, y: &str, n: &str) -> Result<Wrench, Reject>
+    ensures { result ≡ demand_of x.now y.now n.now }
+{
+    Ok(Wrench {
+        x: within(x, MOST_FORCE)?,
+        y: within(y, MOST_FORCE)?,
+        n: within(n, MOST_MOMENT)?,
+    })
+}
+
+/// The form of `check` with these options and places.
+fn check_form(options: &[Placed<'_>], places: &[Placed<'_>]) -> Result<Form, u32>
+    ensures { result ≡ check_form (map pair options.now) (map pair places.now) }
+{
+    let [plant, x, y, n] = places else {
+        return Err(3);
+    };
+    match (demand_of(x.word, y.word, n.word), json_of(options)) {
+        (Ok(demand), Some(json)) => Ok(Form::Check {
+            plant: plant.place,
+            demand,
+            json,
+        }),
         _ => Err(3),
     }
 }
@@ -91,23 +194,24 @@ fn replay_form(before: &[String], after: &[String]) -> Result<Form, u32>
 ///
 /// The words after the command are read from left to right. The first `--` is dropped, and every word after it is
 /// a place. Before it, a word that starts with `-` and is longer than that is an option; every other word is a
-/// place. `replay` has the places PLANT and TELEGRAMS, of which at most one is the word `-`, and no option.
+/// place. `replay` has the places PLANT and TELEGRAMS, of which at most one is the word `-`, and no option. `check`
+/// has the places PLANT, X, Y and N, and may have the option `--json`, at most once. X and Y, in kN, and N, in
+/// kN·dm, are numbers as telegrams spell them, within the demand's limits.
 pub fn form_of(words: &[String]) -> Result<Form, u32>
     ensures form { result ≡ form_of (map string_bytes words.now) }
     ensures within { IfOk result (λ form. NamesBelow form (length words.now)) }
+    ensures demand { IfOk result AsksWithin }
 {
     let Some((command, words)) = words.split_first() else {
         return Err(1);
     };
-    if command.as_str() != "replay" {
-        return Err(2);
+    let sorted = sort_words(words);
+    let (options, places) = (sorted.options.as_slice(), sorted.places.as_slice());
+    match command.as_str() {
+        "replay" => replay_form(options, places),
+        "check" => check_form(options, places),
+        _ => Err(2),
     }
-    let dashes = first_dashes(words);
-    let (before, after) = (&words[..dashes], &words[words.len().min(dashes + 1)..]);
-    if has_option(before) {
-        return Err(3);
-    }
-    replay_form(before, after)
 }
 
 /// The places of the words that name files, in the order of the sources that `run` takes: the plant's, also where
@@ -118,6 +222,7 @@ pub fn file_words(words: &[String]) -> [Option<usize>; 3]
 {
     match form_of(words) {
         Ok(Form::Replay { plant, telegrams }) => [Some(plant), Some(telegrams), None],
+        Ok(Form::Check { plant, .. }) => [Some(plant), None, None],
         Err(_) => [None, None, None],
     }
 }

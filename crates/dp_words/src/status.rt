@@ -12,6 +12,8 @@ use plant_file::PlantFault;
 pub enum RunStatus {
     /// The stream was read to its end, and all was written.
     Clear,
+    /// All was read and written, and some verdict is Lost.
+    LossFound,
     /// The words have no written form: 1 there is no word, 2 the command is unknown, 3 the other words aren't
     /// those of the command.
     Usage(u32),
@@ -46,13 +48,14 @@ impl From<Failed> for RunStatus {
 }
 
 impl RunStatus {
-    /// The exit status: 0, 2 for `Usage`, 3 for `Plant`, 4 for `ReadFault`, 5 for `WriteFault`,
-    /// 6 for `JournalFull`, 7 for `NoMemory` and 8 for `StreamTooLong`.
+    /// The exit status: 0 for `Clear`, 1 for `LossFound`, 2 for `Usage`, 3 for `Plant`, 4 for `ReadFault`,
+    /// 5 for `WriteFault`, 6 for `JournalFull`, 7 for `NoMemory` and 8 for `StreamTooLong`.
     pub fn code(self) -> u8
         ensures { result ≡ status_code self }
     {
         match self {
             RunStatus::Clear => 0,
+            RunStatus::LossFound => 1,
             RunStatus::Usage(_) => 2,
             RunStatus::Plant(_) => 3,
             RunStatus::ReadFault => 4,
@@ -63,12 +66,12 @@ impl RunStatus {
         }
     }
 
-    /// The line on the error output, empty for `Clear`.
+    /// The line on the error output, empty for `Clear` and `LossFound`.
     fn line(&self) -> Line
         ensures { result ≡ status_text self.now }
     {
         match self {
-            RunStatus::Clear => Line::of(""),
+            RunStatus::Clear | RunStatus::LossFound => Line::of(""),
             RunStatus::Usage(1) => Line::of("dp: usage 1\n"),
             RunStatus::Usage(2) => Line::of("dp: usage 2\n"),
             RunStatus::Usage(_) => Line::of("dp: usage 3\n"),

@@ -16,12 +16,36 @@ fn words_without_a_form(rt: HostRuntime) -> Result<(), Fail> {
     for (line, want) in [
         ("", 1),
         ("fly", 2),
+        ("fly --json demo 0 0 0", 2),
+        ("-- check demo 0 0 0", 2),
         ("replay", 3),
         ("replay demo", 3),
         ("replay demo - x", 3),
         ("replay -x demo -", 3),
         ("replay - -", 3),
+        ("replay --json demo -", 3),
         ("replay --workers demo -", 3),
+        ("check", 3),
+        ("check demo", 3),
+        ("check demo 0 0", 3),
+        ("check demo 0 0 0 0", 3),
+        ("check demo 0 0 0 0 0", 3),
+        ("check demo -5 0 0", 3),
+        ("check demo 0 0 -", 3),
+        ("check demo 0 0 x", 3),
+        ("check demo 01 0 0", 3),
+        ("check demo +1 0 0", 3),
+        ("check demo -- -0 0 0", 3),
+        ("check demo 24001 0 0", 3),
+        ("check demo -- 0 -24001 0", 3),
+        ("check demo 0 0 76800001", 3),
+        ("check demo -- 0 0 -76800001", 3),
+        ("check demo 0 0 0 --json --json", 3),
+        ("check --json demo --json 0 0 0", 3),
+        ("check demo 0 0 0 --JSON", 3),
+        ("check demo 0 0 0 -- --json", 3),
+        ("check demo 0 0 -- --json", 3),
+        ("check demo 0 0 0 -- --", 3),
     ] {
         assert_eq!(rt;
             form_of(words_of(alloc, line)?.as_slice()),
@@ -33,7 +57,7 @@ fn words_without_a_form(rt: HostRuntime) -> Result<(), Fail> {
 }
 
 #[test]
-fn words_with_a_form(rt: HostRuntime) -> Result<(), Fail> {
+fn words_of_replay(rt: HostRuntime) -> Result<(), Fail> {
     let alloc = rt.alloc();
     for (line, plant, telegrams) in [
         ("replay demo -", 1, 2),
@@ -42,6 +66,7 @@ fn words_with_a_form(rt: HostRuntime) -> Result<(), Fail> {
         ("replay -- demo -x", 2, 3),
         ("replay demo -- -x", 1, 3),
         ("replay demo - --", 1, 2),
+        ("replay -- demo --", 2, 3),
     ] {
         let words = words_of(alloc, line)?;
         assert_eq!(rt;
@@ -54,6 +79,50 @@ fn words_with_a_form(rt: HostRuntime) -> Result<(), Fail> {
             [Some(plant), Some(telegrams), None],
             "at {line}"
         );
+    }
+    Ok(())
+}
+
+#[test]
+fn words_of_check(rt: HostRuntime) -> Result<(), Fail> {
+    let alloc = rt.alloc();
+    for (line, plant, (x, y, n), json) in [
+        ("check demo 0 0 0", 1, (0, 0, 0), false),
+        ("check demo 1 2 3 --json", 1, (1, 2, 3), true),
+        ("check --json demo 1 2 3", 2, (1, 2, 3), true),
+        ("check demo --json 1 2 3", 1, (1, 2, 3), true),
+        ("check --json -- demo -1 2 -3", 3, (-1, 2, -3), true),
+        ("check -- demo 0 0 0", 2, (0, 0, 0), false),
+        ("check demo -- -5 0 0", 1, (-5, 0, 0), false),
+        ("check demo 0 0 0 --", 1, (0, 0, 0), false),
+        ("check -- --json 0 0 0", 2, (0, 0, 0), false),
+        (
+            "check - 24000 24000 76800000",
+            1,
+            (24_000, 24_000, 76_800_000),
+            false,
+        ),
+        (
+            "check - -- -24000 -24000 -76800000",
+            1,
+            (-24_000, -24_000, -76_800_000),
+            false,
+        ),
+    ] {
+        let words = words_of(alloc, line)?;
+        let demand = Wrench { x, y, n };
+        let form = Form::Check {
+            plant,
+            demand,
+            json,
+        };
+        assert_eq!(rt; form_of(words.as_slice()), Ok(form), "at {line}");
+        assert_eq!(rt;
+            file_words(words.as_slice()),
+            [Some(plant), None, None],
+            "at {line}"
+        );
+        assert_eq!(rt; form.plant(), plant);
     }
     Ok(())
 }

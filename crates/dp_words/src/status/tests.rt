@@ -9,6 +9,7 @@ fn lines_and_numbers(rt: HostRuntime) -> Result<(), Fail> {
     let at = |part, index, key| Path { part, index, key };
     let lines = [
         (RunStatus::Clear, 0, ""),
+        (RunStatus::LossFound, 1, ""),
         (RunStatus::Usage(2), 2, "dp: usage 2\n"),
         (
             RunStatus::Plant(PlantFault::MissingKey(at(Part::Top, 0, Key::Format))),
