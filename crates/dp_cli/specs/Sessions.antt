@@ -29,7 +29,7 @@ use Rattle.dp_words.specs.PlantSource.{PlantSays}
 use Rattle.dp_words.specs.Shown.{HasRisen, IsEmptied, Shown, Took, TookPart}
 use Rattle.dp_words.specs.Words.{form_of}
 use Rattle.dp_words.specs.Statuses.{IsTold}
-use Rattle.dp_cli.specs.Texts.{log_text, report_text}
+use Rattle.log_text.specs.Texts.{log_text, report_text}
 
 -- ---- the history of a stream
 

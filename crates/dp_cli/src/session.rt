@@ -14,9 +14,8 @@ ghost use Rattle.dp_cli.specs.Steps.{TakesBytes, TakesEnd, TakesItem, TakesStrea
 ghost use Rattle.dp_words.specs.Shown.{Took, TookPart};
 ghost use Rattle.dp_cli.specs.Sessions.{status_of, written, EndsText, EndsWriting};
 ghost use Rattle.dp_cli.specs.Sessions.{WritesWhole, WritesPart};
-ghost use Rattle.dp_cli.specs.Texts.{log_text, report_text};
+ghost use Rattle.log_text.specs.Texts.{log_text, report_text};
 
-use crate::log_text;
 use dp_io::{Failed, NoMemory, Sink, Source, send_all};
 use dp_words::RunStatus;
 use frame::{Framer, Item};
@@ -175,7 +174,7 @@ fn write_log<S: Sink>(alloc: Global, core: &Core, out: &mut S) -> Result<(), Run
     let head = log_text::log_head(alloc, core.plant())?;
     send_all(out, head.as_bytes())?;
     for entry in core.history() {
-        let line = log_text::entry_text(alloc, entry)?;
+        let line = log_text::entry_text(alloc, core.plant(), entry)?;
         send_all(out, line.as_bytes())?;
     }
     Ok(())

@@ -4,7 +4,7 @@ use Rattle.std.proofs.lemmas.Result.{err_from_is_err_and}
 use Rattle.dp_words.specs.declared.status.RunStatus.{RunStatus}
 use Rattle.dp_words.specs.Shown.{shown}
 use Rattle.dp_cli.specs.Sessions.{EndsText}
-use Rattle.dp_cli.specs.Texts.{log_text, report_text}
+use Rattle.log_text.specs.Texts.{log_text, report_text}
 use Rattle.dp_cli.proofs.Writing.{text-back, text-front}
 use Rattle.dp_cli.proofs.session.write_history.Goals as goal
 
