@@ -1,1 +1,3 @@
+pub mod Json
+pub mod Outcomes
 pub mod Texts
