@@ -1,5 +1,5 @@
 -- A check as JSON: its value, whose keys stand in the order of their bytes, and its text.
-use Rattle.std.specs.Prelude.{ℕ, ℤ, List, [], ◌∷◌, ◌×◌, map, codes}
+use Rattle.std.specs.Prelude.{ℕ, ℤ, List, [], ◌∷◌, map, codes}
 use Rattle.std.specs.List.{zip}
 use Rattle.std.specs.Fmt.{signed_decimal}
 use Rattle.serde_json.specs.Data.{Data, number, string, array, object, unsigned, member, no_members}

@@ -1,5 +1,5 @@
 -- The texts of outcomes, allocations and whole checks.
-use Rattle.std.specs.Prelude.{ℕ, ℤ, List, ◌++◌, ◌×◌, length, codes}
+use Rattle.std.specs.Prelude.{ℕ, ℤ, List, ◌++◌, length, codes}
 use Rattle.std.specs.List.{flat_map, zip}
 use Rattle.std.specs.Fmt.{decimal, signed_decimal}
 use Rattle.plant_model.specs.declared.parts.Group.{Group}
