@@ -1,5 +1,4 @@
 pub mod Plants
 pub mod Sessions
 pub mod Steps
-pub mod Texts
 pub mod Writing

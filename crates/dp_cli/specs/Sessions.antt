@@ -24,8 +24,8 @@ use Rattle.dp_words.specs.declared.status.RunStatus.TheVariants as statuses
 use Rattle.plant_file.specs.declared.fault.PlantFault.{PlantFault}
 use Rattle.dp_words.specs.Shown.{HasRisen, IsEmptied, Shown, Took, TookPart}
 use Rattle.dp_words.specs.Statuses.{IsTold}
+use Rattle.log_text.specs.Texts.{log_text, report_text}
 use Rattle.dp_cli.specs.Plants.{HasAPlant, HasPlantCause, NamesNoFile, WordsSay}
-use Rattle.dp_cli.specs.Texts.{log_text, report_text}
 
 -- ---- the history of a stream
 

@@ -11,7 +11,6 @@ ghost use Rattle.dp_words.specs.Statuses.{status_code};
 ghost use Rattle.dp_words.specs.Words.{word_at};
 ghost use Rattle.dp_words.specs.declared.status.RunStatus.{RunStatus as Status};
 
-pub mod log_text;
 mod replay;
 mod session;
 mod writing;

@@ -12,10 +12,9 @@ ghost use Rattle.dp_cli.specs.Sessions.{GaveTooManyItems};
 ghost use Rattle.dp_cli.specs.Steps.{TakesBytes, TakesEnd, TakesItem, TakesStream};
 ghost use Rattle.dp_cli.specs.Sessions.{status_of, written};
 ghost use Rattle.dp_cli.specs.Sessions.{WritesWhole, WritesPart};
-ghost use Rattle.dp_cli.specs.Texts.{log_text, report_text};
 ghost use Rattle.dp_cli.specs.Writing.{EndsText, EndsWriting};
+ghost use Rattle.log_text.specs.Texts.{log_text, report_text};
 
-use crate::log_text;
 use crate::writing::send_lines;
 use dp_io::{NoMemory, Sink, Source, send_all};
 use dp_words::RunStatus;
@@ -159,7 +158,7 @@ fn write_log<S: Sink>(alloc: Global, core: &Core, out: &mut S) -> Result<(), Run
     let head = log_text::log_head(alloc, core.plant())?;
     send_all(out, head.as_bytes())?;
     for entry in core.history() {
-        let line = log_text::entry_text(alloc, entry)?;
+        let line = log_text::entry_text(alloc, core.plant(), entry)?;
         send_all(out, line.as_bytes())?;
     }
     Ok(())

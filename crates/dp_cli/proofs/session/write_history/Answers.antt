@@ -3,8 +3,8 @@ use Rattle.std.proofs.Common.{◌++◌, Result, Err, sym, subst}
 use Rattle.std.proofs.lemmas.Result.{err_from_is_err_and}
 use Rattle.dp_words.specs.declared.status.RunStatus.{RunStatus}
 use Rattle.dp_words.specs.Shown.{shown}
+use Rattle.log_text.specs.Texts.{log_text, report_text}
 use Rattle.dp_cli.specs.Writing.{EndsText}
-use Rattle.dp_cli.specs.Texts.{log_text, report_text}
 use Rattle.dp_cli.proofs.Texted.{text-back, text-front}
 use Rattle.dp_cli.proofs.session.write_history.Goals as goal
 

@@ -6,7 +6,7 @@ use Rattle.dp_io.specs.Streams.{Grew}
 use Rattle.plant_core.specs.Machine.{IsLegal, is_answer, opening}
 use Rattle.plant_core.specs.declared.call.Entry.{Entry}
 use Rattle.dp_words.specs.Shown.{GrewInPart}
-use Rattle.dp_cli.specs.Texts.{log_head, entry_text}
+use Rattle.log_text.specs.Texts.{log_head, entry_text}
 use Rattle.dp_cli.proofs.Given.{part-front}
 use Rattle.dp_cli.proofs.Answers.{answer-at}
 use Rattle.dp_cli.proofs.Logs.{lines-part, lines-whole, part-as}
@@ -32,7 +32,7 @@ returns-in_err-send_all g c =
     let text : c.as_bytes.result.now ≡ log_head plant =
     cc (c.as_bytes.ensures.value, c.in_ok-head.ensures, c.plant.ensures) in
     let part =
-    part-front before after (log_head plant) (flat_map entry_text c.args.core.now.history)
+    part-front before after (log_head plant) (flat_map (entry_text c.args.core.now.plant) c.args.core.now.history)
     (part-as before after c.as_bytes.result.now (log_head plant) text
     c.in_err-send_all.ensures.part) in
     let failed = err_from_is_err_and c.from_residual-in_err-send_all.result
@@ -45,18 +45,19 @@ returns-in_err-send_all-2 g c =
     let before = g.S.Sink.taken c.args.out.now in
     let middle = g.S.Sink.taken c.loop-entry.out in
     let after = g.S.Sink.taken c.send_all-in-loop-entry.new.sink in
-    let text : c.as_bytes-in-loop-entry.result.now ≡ entry_text c.entry-item.result =
+    let text : c.as_bytes-in-loop-entry.result.now ≡ entry_text c.args.core.now.plant c.entry-item.result =
     cc (c.as_bytes-in-loop-entry.ensures.value, c.in_ok-line.ensures) in
-    let part = lines-part before middle after (log_head c.args.core.now.plant) entry_text
+    let part = lines-part before middle after (log_head c.args.core.now.plant)
+    (entry_text c.args.core.now.plant)
     c.history-entry-items.result.now c.loop-entry.entry-index
     c.entry-item.result (omega arith) c.entry-item.is c.loop-entry.invariant.sent
-    (part-as middle after c.as_bytes-in-loop-entry.result.now (entry_text c.entry-item.result) text
+    (part-as middle after c.as_bytes-in-loop-entry.result.now (entry_text c.args.core.now.plant c.entry-item.result) text
     c.in_err-send_all-2.ensures.part) in
     let failed = err_from_is_err_and c.from_residual-in_err-send_all-2.result
     c.from_residual-in_err-send_all-2.ensures.1 in
     text-failed _ _ _ (failed.1 ∙ ap Err failed.2)
     (subst (λ (h : List Entry). GrewInPart before after
-    (log_head c.args.core.now.plant ++ flat_map entry_text h)) c.history-entry-items.ensures.entries
+    (log_head c.args.core.now.plant ++ flat_map (entry_text c.args.core.now.plant) h)) c.history-entry-items.ensures.entries
     part)
     (omega (arith, c.loop-entry.invariant.counted, c.in_err-send_all-2.ensures.failed))
     (omega (arith, c.loop-entry.invariant.counted, c.send_all-in-loop-entry.ensures.counted))
@@ -66,10 +67,11 @@ loop-entry-preserved g c =
     let before = g.S.Sink.taken c.args.out.now in
     let middle = g.S.Sink.taken c.loop-entry.out in
     let after = g.S.Sink.taken c.send_all-in-loop-entry.new.sink in
-    let text : c.as_bytes-in-loop-entry.result.now ≡ entry_text c.entry-item.result =
+    let text : c.as_bytes-in-loop-entry.result.now ≡ entry_text c.args.core.now.plant c.entry-item.result =
     cc (c.as_bytes-in-loop-entry.ensures.value, c.in_ok-line.ensures) in
     record {
-      sent = lines-whole before middle after (log_head c.args.core.now.plant) entry_text
+      sent = lines-whole before middle after (log_head c.args.core.now.plant)
+          (entry_text c.args.core.now.plant)
           c.history-entry-items.result.now c.loop-entry.entry-index
           c.entry-item.result (omega arith) c.entry-item.is c.loop-entry.invariant.sent
           (subst (λ (t : List ℕ). Grew middle after t) text c.in_ok-send_all-2.ensures.whole);

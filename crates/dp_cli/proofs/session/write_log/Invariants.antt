@@ -2,12 +2,12 @@
 use Rattle.std.proofs.Common.{◌≤◌, ◌++◌, take}
 use Rattle.std.specs.List.{flat_map}
 use Rattle.dp_io.specs.Streams.{Grew}
-use Rattle.dp_cli.specs.Texts.{log_head, entry_text}
+use Rattle.log_text.specs.Texts.{log_head, entry_text}
 use Rattle.dp_cli.proofs.session.write_log.Given as goal
 
 abbrev pub invariant-loop-entry : goal.invariant-loop-entry
 invariant-loop-entry g l = record {
   sent : Grew (g.S.Sink.taken l.fn.out) (g.S.Sink.taken l.out)
-      (log_head l.core.plant ++ flat_map entry_text (take l.entry-index l.entry-items));
+      (log_head l.core.plant ++ flat_map (entry_text l.core.plant) (take l.entry-index l.entry-items));
   counted : g.S.Sink.faults l.fn.out ≤ g.S.Sink.faults l.out;
 }

@@ -1,13 +1,11 @@
-//! The texts of a history: its log, a line for each entry, and its report.
+//! The log of a history: its first line, and a line for each entry.
 ghost use Rattle.std.specs.Prelude.{◌≡◌, ◌++◌, IfOk, IsTrue, OnOk, string_bytes};
 ghost use Rattle.plant_core.specs.Machine.{is_answer};
-ghost use Rattle.dp_cli.specs.Texts.{caller_text, call_text, cell_text, cells_text, demand_text};
-ghost use Rattle.dp_cli.specs.Texts.{entry_text, group_text, log_head, note_text, reply_text};
-ghost use Rattle.dp_cli.specs.Texts.{report_text};
+ghost use Rattle.log_text.specs.Texts.{caller_text, call_text, cell_text, cells_text, demand_text};
+ghost use Rattle.log_text.specs.Texts.{entry_text, log_head, note_text, reply_text};
 
 use dp_io::NoMemory;
-use plant_core::{Call, Cell, Cells, Core, Entry, Note, Reply};
-use plant_model::parts::Group;
+use plant_core::{Call, Cell, Cells, Entry, Note, Reply};
 use plant_model::plant::Plant;
 use plant_model::wrench::Wrench;
 use std::alloc::{AllocError, Global};
@@ -112,10 +110,10 @@ fn push_reply(text: &mut String, reply: &Reply) -> Result<(), AllocError>
     }
 }
 
-/// The log's line of an entry: the caller, the call, `=` and the reply, which is an answer.
-pub fn entry_text(alloc: Global, entry: &Entry) -> Result<String, NoMemory>
+/// The log's line of an entry of the plant's history: the caller, the call, `=` and the reply, which is an answer.
+pub fn entry_text(alloc: Global, _plant: &Plant, entry: &Entry) -> Result<String, NoMemory>
     requires { IsTrue (is_answer entry.now.reply) }
-    ensures { IfOk result (λ text. string_bytes text ≡ entry_text entry.now) }
+    ensures { IfOk result (λ text. string_bytes text ≡ entry_text _plant.now entry.now) }
 {
     let mut text = String::new(alloc);
     push_caller(&mut text, entry.caller)?;
@@ -133,27 +131,4 @@ pub fn log_head(alloc: Global, plant: &Plant) -> Result<String, NoMemory>
 {
     let name = plant.name();
     Ok(format!(in alloc; "LOG,1,{name}\n")?)
-}
-
-fn push_group(text: &mut String, group: &Group) -> Result<(), AllocError>
-    ensures { OnOk result (string_bytes text.new ≡ string_bytes text.old ++ group_text group.now) }
-{
-    let name = &group.name;
-    write!(text, "GROUP,{name},PENDING\n")
-}
-
-/// The report of a core's history: the number of the latest version with the count of telegrams and notes, a line
-/// for each group, and `END`.
-pub fn report_text(alloc: Global, core: &Core) -> Result<String, NoMemory>
-    ensures { IfOk result
-        (λ text. string_bytes text ≡ report_text core.now.plant core.now.history) }
-{
-    let number = core.latest().number;
-    let events = core.events();
-    let mut text = format!(in alloc; "REPORT,{number},{events}\n")?;
-    for group in core.plant().groups().as_slice() {
-        push_group(&mut text, group)?;
-    }
-    text.push_str("END\n")?;
-    Ok(text)
 }

@@ -2,8 +2,8 @@
 use Rattle.std.proofs.Common.{◌≡◌, ◌++◌, string_bytes, take, codes}
 use Rattle.std.specs.Fmt.{decimal}
 use Rattle.std.specs.List.{flat_map}
-use Rattle.dp_cli.specs.Texts.{cell_text}
-use Rattle.dp_cli.proofs.log_text.push_cells.Given as goal
+use Rattle.log_text.specs.Texts.{cell_text}
+use Rattle.log_text.proofs.entry.push_cells.Given as goal
 
 abbrev pub invariant-loop-cell : goal.invariant-loop-cell
 invariant-loop-cell l = string_bytes l.text ≡ string_bytes l.fn.text

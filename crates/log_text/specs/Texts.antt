@@ -77,8 +77,8 @@ reply_text replies.JournalFull = []
 reply_text replies.Closed = []
 
 -- the caller, the call and the reply
-abbrev pub entry_text : Entry → List ℕ
-entry_text entry = line (caller_text entry.caller ++ codes " " ++ call_text entry.call
+abbrev pub entry_text : Parts → Entry → List ℕ
+entry_text plant entry = line (caller_text entry.caller ++ codes " " ++ call_text entry.call
     ++ codes " = " ++ reply_text entry.reply)
 
 abbrev pub log_head : Parts → List ℕ
@@ -86,7 +86,7 @@ log_head plant = line (codes "LOG,1," ++ plant.name)
 
 -- the plant's name, and a line for each entry
 abbrev pub log_text : Parts → List Entry → List ℕ
-log_text plant history = log_head plant ++ flat_map entry_text history
+log_text plant history = log_head plant ++ flat_map (entry_text plant) history
 
 abbrev pub report_head : State → List ℕ
 report_head state =

@@ -1,0 +1,15 @@
+//! What a check finds.
+
+use certificate::Outcome;
+use plant_core::Allocation;
+
+/// What a check of a plant and a demand finds.
+#[derive(Debug, Drop)]
+pub struct Findings {
+    /// Whether the plant meets the demand with nothing lost.
+    pub intact: Outcome,
+    /// Whether it does after the loss of each redundancy group, in the order of the plant.
+    pub groups: Vec<Outcome>,
+    /// How much of the demand is asked of the thrusters, with nothing lost.
+    pub allocation: Allocation,
+}

@@ -1,0 +1,64 @@
+//! The text of an outcome.
+ghost use Rattle.std.specs.Prelude.{◌≡◌, ◌++◌, IfOk, OnOk, string_bytes};
+ghost use Rattle.log_text.specs.Outcomes.{cuts_text, outcome_text, thrusts_text};
+
+use certificate::{Cuts, Outcome};
+use dp_io::NoMemory;
+use plant_model::plant::Plant;
+use plant_model::thrust::{Thrust, Thrusts};
+use std::alloc::{AllocError, Global};
+use wrench_geometry::Vec3;
+
+/// Appends each thruster's thrust along x and along y.
+pub(crate) fn push_thrusts(text: &mut String, thrusts: &Thrusts) -> Result<(), AllocError>
+    ensures { OnOk result (string_bytes text.new
+        ≡ string_bytes text.old ++ thrusts_text thrusts.now) }
+{
+    for thrust in thrusts.list.as_slice() {
+        let Thrust { x, y } = thrust;
+        write!(text, ",{x},{y}")?;
+    }
+    Ok(())
+}
+
+/// Appends the count of cuts, and each cut along x, along y and in yaw.
+fn push_cuts(text: &mut String, cuts: &Cuts) -> Result<(), AllocError>
+    ensures { OnOk result (string_bytes text.new ≡ string_bytes text.old ++ cuts_text cuts.now) }
+{
+    let count = cuts.list.len();
+    write!(text, "{count}")?;
+    for cut in cuts.list.as_slice() {
+        let Vec3 { x, y, z } = cut;
+        write!(text, ",{x},{y},{z}")?;
+    }
+    Ok(())
+}
+
+pub(crate) fn push_outcome(text: &mut String, outcome: &Outcome) -> Result<(), AllocError>
+    ensures { OnOk result (string_bytes text.new
+        ≡ string_bytes text.old ++ outcome_text outcome.now) }
+{
+    match outcome {
+        Outcome::Holds { choice, q, thrusts } => {
+            write!(text, "HOLDS,{choice},{q}")?;
+            push_thrusts(text, thrusts)
+        }
+        Outcome::Lost { cuts } => {
+            text.push_str("LOST,")?;
+            push_cuts(text, cuts)
+        }
+    }
+}
+
+/// An outcome of the plant: `HOLDS` with the choice, the denominator and each thruster's thrust along x and along y,
+/// or `LOST` with the count of cuts and each cut along x, along y and in yaw.
+pub fn outcome_text(alloc: Global, _plant: &Plant, outcome: &Outcome) -> Result<String, NoMemory>
+    ensures { IfOk result (λ text. string_bytes text ≡ outcome_text outcome.now) }
+{
+    let mut text = String::new(alloc);
+    push_outcome(&mut text, outcome)?;
+    Ok(text)
+}
+
+#[cfg(test)]
+mod tests;

@@ -1,0 +1,140 @@
+//! Checks of the demo as plain text and as JSON.
+ghost use Rattle.std.specs.Prelude.{◌≡◌, ◌≤◌, length, pos, IfOk};
+ghost use Rattle.std.specs.Prelude.{◌≤ℤ◌};
+ghost use Rattle.plant_model.specs.declared.limits.TheConstants.{MOST_THRUSTERS};
+
+use super::*;
+use arrayvec::ArrayVec;
+use certificate::{Cuts, Outcome};
+use dp_num::Fraction;
+use plant_core::Allocation;
+use plant_model::demo::demo;
+use plant_model::thrust::{Thrust, Thrusts};
+use plant_model::wrench::Wrench;
+use std::alloc::Global;
+use std::test::Fail;
+use wrench_geometry::Vec3;
+
+const NOTHING: Wrench = Wrench { x: 0, y: 0, n: 0 };
+
+const NO_THRUST: Thrust = Thrust { x: 0, y: 0 };
+
+fn thrusts(list: &[Thrust]) -> Thrusts
+    requires { length list.now ≤ MOST_THRUSTERS }
+{
+    let mut thrusts = Thrusts::default();
+    thrusts.list.try_extend_from_slice(list).unwrap();
+    thrusts
+}
+
+fn holds() -> Outcome {
+    Outcome::Holds {
+        choice: 0,
+        q: 1,
+        thrusts: thrusts(&[NO_THRUST; 4]),
+    }
+}
+
+fn lost(cut: Vec3) -> Outcome {
+    let mut cuts = Cuts {
+        list: ArrayVec::new(),
+    };
+    cuts.list.push(cut);
+    Outcome::Lost { cuts }
+}
+
+fn allocation(top: i64, bottom: i64) -> Allocation
+    requires top { pos 0 ≤ℤ top }
+    requires bottom { pos 1 ≤ℤ bottom }
+{
+    Allocation {
+        fraction: Fraction { top, bottom },
+        choice: 0,
+        q: 1,
+        thrusts: thrusts(&[NO_THRUST; 4]),
+    }
+}
+
+/// What is found of a plant of two groups.
+fn findings(
+    alloc: Global,
+    first: Outcome,
+    second: Outcome,
+    allocation: Allocation,
+) -> Result<Findings, Fail>
+    ensures { IfOk result (λ findings. length findings.groups.items ≡ 2) }
+{
+    let mut groups = Vec::new(alloc);
+    groups.push(first)?;
+    groups.push(second)?;
+    Ok(Findings {
+        intact: holds(),
+        groups,
+        allocation,
+    })
+}
+
+#[test]
+fn nothing_is_asked(rt: HostRuntime) -> Result<(), Fail> {
+    let alloc = rt.alloc();
+    let findings = findings(alloc, holds(), holds(), allocation(1, 1))?;
+    let text = check_text(alloc, &demo(), NOTHING, &findings)?;
+    assert_eq!(rt;
+        text.as_str(),
+        "CHECK,0,0,0\n\
+         INTACT,HOLDS,0,1,0,0,0,0,0,0,0,0\n\
+         GROUP,GA,HOLDS,0,1,0,0,0,0,0,0,0,0\n\
+         GROUP,GB,HOLDS,0,1,0,0,0,0,0,0,0,0\n\
+         ALLOCATION,1,1,0,1,0,0,0,0,0,0,0,0\n\
+         END\n"
+    );
+    let text = check_json(alloc, &demo(), NOTHING, &findings)?;
+    assert_eq!(rt;
+        text.as_str(),
+        "{\"allocation\":{\"bottom\":\"1\",\"choice\":0,\"q\":\"1\",\
+         \"thrusts\":[[\"0\",\"0\"],[\"0\",\"0\"],[\"0\",\"0\"],[\"0\",\"0\"]],\"top\":\"1\"},\
+         \"demand\":[0,0,0],\
+         \"groups\":[{\"name\":\"GA\",\"outcome\":{\"choice\":0,\"q\":\"1\",\
+         \"thrusts\":[[\"0\",\"0\"],[\"0\",\"0\"],[\"0\",\"0\"],[\"0\",\"0\"]],\"verdict\":\"HOLDS\"}},\
+         {\"name\":\"GB\",\"outcome\":{\"choice\":0,\"q\":\"1\",\
+         \"thrusts\":[[\"0\",\"0\"],[\"0\",\"0\"],[\"0\",\"0\"],[\"0\",\"0\"]],\"verdict\":\"HOLDS\"}}],\
+         \"intact\":{\"choice\":0,\"q\":\"1\",\
+         \"thrusts\":[[\"0\",\"0\"],[\"0\",\"0\"],[\"0\",\"0\"],[\"0\",\"0\"]],\"verdict\":\"HOLDS\"}}\n"
+    );
+    Ok(())
+}
+
+#[test]
+fn a_loss_is_found(rt: HostRuntime) -> Result<(), Fail> {
+    let alloc = rt.alloc();
+    let ahead = Vec3 { x: 1, y: 0, z: 0 };
+    let findings = findings(alloc, holds(), lost(ahead), allocation(380, 381))?;
+    let demand = Wrench {
+        x: -20,
+        y: 381,
+        n: -76_800_000,
+    };
+    let text = check_text(alloc, &demo(), demand, &findings)?;
+    assert_eq!(rt;
+        text.as_str(),
+        "CHECK,-20,381,-76800000\n\
+         INTACT,HOLDS,0,1,0,0,0,0,0,0,0,0\n\
+         GROUP,GA,HOLDS,0,1,0,0,0,0,0,0,0,0\n\
+         GROUP,GB,LOST,1,1,0,0\n\
+         ALLOCATION,380,381,0,1,0,0,0,0,0,0,0,0\n\
+         END\n"
+    );
+    let text = check_json(alloc, &demo(), demand, &findings)?;
+    assert_eq!(rt;
+        text.as_str(),
+        "{\"allocation\":{\"bottom\":\"381\",\"choice\":0,\"q\":\"1\",\
+         \"thrusts\":[[\"0\",\"0\"],[\"0\",\"0\"],[\"0\",\"0\"],[\"0\",\"0\"]],\"top\":\"380\"},\
+         \"demand\":[-20,381,-76800000],\
+         \"groups\":[{\"name\":\"GA\",\"outcome\":{\"choice\":0,\"q\":\"1\",\
+         \"thrusts\":[[\"0\",\"0\"],[\"0\",\"0\"],[\"0\",\"0\"],[\"0\",\"0\"]],\"verdict\":\"HOLDS\"}},\
+         {\"name\":\"GB\",\"outcome\":{\"cuts\":[[\"1\",\"0\",\"0\"]],\"verdict\":\"LOST\"}}],\
+         \"intact\":{\"choice\":0,\"q\":\"1\",\
+         \"thrusts\":[[\"0\",\"0\"],[\"0\",\"0\"],[\"0\",\"0\"],[\"0\",\"0\"]],\"verdict\":\"HOLDS\"}}\n"
+    );
+    Ok(())
+}
