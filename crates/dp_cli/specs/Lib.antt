@@ -1,4 +1,6 @@
+pub mod Checks
 pub mod Plants
+pub mod Runs
 pub mod Sessions
 pub mod Steps
 pub mod Writing

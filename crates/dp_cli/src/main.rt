@@ -6,18 +6,21 @@ ghost use Rattle.std.specs.Process.{exit_status};
 ghost use Rattle.std.specs.Vec.Iter.{into_iter_items};
 ghost use Rattle.dp_words.specs.Shown.{shown};
 ghost use Rattle.dp_words.specs.Statuses.{IsTold};
-ghost use Rattle.dp_cli.specs.Sessions.{EndsCall};
+ghost use Rattle.dp_cli.specs.Runs.{EndsRun};
 ghost use Rattle.dp_words.specs.Statuses.{status_code};
 ghost use Rattle.dp_words.specs.Words.{word_at};
 ghost use Rattle.dp_words.specs.declared.status.RunStatus.{RunStatus as Status};
 
+mod check;
+mod findings;
 mod replay;
+mod run;
 mod session;
 mod writing;
 
 use dp_io::{Gate, LazyFile, NoGate, Sink, Source, StdErr, StdOut};
 use dp_words::{RunStatus, file_words, tell};
-use replay::run;
+use run::run;
 use std::alloc::{AllocError, Global};
 use std::env;
 use std::io::{self, ErrorKind};
@@ -107,7 +110,7 @@ fn exit_of<
     gate: &G,
 ) -> ExitCode
     ensures { (status : Status) × (exit_status result ≡ status_code status)
-        × EndsCall (map string_bytes words.now) status first.old first.new
+        × EndsRun (map string_bytes words.now) status first.old first.new second.old second.new
         (shown A.left A.faults first.old first.new) (shown B.left B.faults second.old second.new)
         (shown O.taken O.faults out.old out.new) (shown E.taken E.faults err.old err.new)
         × (third.new ≡ third.old) }

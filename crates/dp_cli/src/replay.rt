@@ -1,15 +1,13 @@
-//! The top calls of the program.
+//! The top call of `replay`.
 ghost use Rattle.std.specs.Prelude.{◌≡◌, map, string_bytes};
 ghost use Rattle.dp_words.specs.Shown.{shown};
 ghost use Rattle.dp_cli.specs.Plants.{NamesNoFile};
 ghost use Rattle.dp_cli.specs.Sessions.{EndsCall, EndsSession};
 
 use crate::session::session;
-use dp_io::{Gate, Sink, Source};
+use dp_io::{Sink, Source};
 use dp_words::{RunStatus, form_of, plant_from, tell};
 use std::alloc::Global;
-use std::sync::Wait;
-use std::thread::Threads;
 
 /// What the words ask for, without a word to the error output.
 fn replay<A: Source, B: Source, O: Sink>(
@@ -59,37 +57,6 @@ pub fn replay_call<A: Source, B: Source, O: Sink, E: Sink>(
     let status = replay(alloc, words, first, second, out);
     tell(&status, err);
     status
-}
-
-/// All that the program does. The words are those after the program's name.
-///
-/// The sources are those of the plant, of the sensors or the recorded telegrams, and of the operators. Today the
-/// one command is `replay`, which starts no thread, doesn't read the third source and tells the gate nothing.
-pub fn run<
-    R: Threads + Wait + Sync,
-    A: Source,
-    B: Source,
-    C: Source + Send,
-    O: Sink,
-    E: Sink,
-    G: Gate + Sync,
->(
-    _rt: &R,
-    alloc: Global,
-    words: &[String],
-    first: &mut A,
-    second: &mut B,
-    _third: &mut C,
-    out: &mut O,
-    err: &mut E,
-    _gate: &G,
-) -> RunStatus
-    ensures ends { EndsCall (map string_bytes words.now) result first.old first.new
-        (shown A.left A.faults first.old first.new) (shown B.left B.faults second.old second.new)
-        (shown O.taken O.faults out.old out.new) (shown E.taken E.faults err.old err.new) }
-    ensures third { _third.new ≡ _third.old }
-{
-    replay_call(alloc, words, first, second, out, err)
 }
 
 #[cfg(test)]
