@@ -24,6 +24,11 @@ thrust_text thrust =
 abbrev pub thrusts_text : Thrusts → List ℕ
 thrusts_text thrusts = flat_map thrust_text thrusts.list.items
 
+-- a choice, and thrusts in it over a denominator
+abbrev pub given_text : ℕ → ℤ → Thrusts → List ℕ
+given_text choice q thrusts =
+    decimal choice ++ codes "," ++ signed_decimal q ++ thrusts_text thrusts
+
 -- a cut along x, along y and in yaw, each after a comma
 abbrev pub cut_text : Vec3 → List ℕ
 cut_text cut = codes "," ++ signed_decimal cut.x ++ codes "," ++ signed_decimal cut.y
@@ -35,16 +40,23 @@ cuts_text cuts = decimal (length cuts.list.items) ++ flat_map cut_text cuts.list
 
 -- the verdict, and what shows it: the choice, the denominator and the thrusts, or the cuts
 abbrev pub outcome_text : Outcome → List ℕ
-outcome_text (Holds choice q thrusts) = codes "HOLDS," ++ decimal choice ++ codes ","
-    ++ signed_decimal q ++ thrusts_text thrusts
+outcome_text (Holds choice q thrusts) = codes "HOLDS," ++ given_text choice q thrusts
 outcome_text (Lost cuts) = codes "LOST," ++ cuts_text cuts
+
+-- the part of a demand that is given, and the thrusts that give it
+abbrev pub given_part_text : Allocation → List ℕ
+given_part_text a = signed_decimal a.fraction.top ++ codes ","
+    ++ signed_decimal a.fraction.bottom ++ codes "," ++ given_text a.choice a.q a.thrusts
 
 -- ---- a check
 
--- the demand along x, along y and in yaw
+-- a demand along x, along y and in yaw
+abbrev pub wrench_text : Wrench → List ℕ
+wrench_text demand = signed_decimal demand.x ++ codes "," ++ signed_decimal demand.y
+    ++ codes "," ++ signed_decimal demand.n
+
 abbrev pub check_head : Wrench → List ℕ
-check_head demand = line (codes "CHECK," ++ signed_decimal demand.x ++ codes ","
-    ++ signed_decimal demand.y ++ codes "," ++ signed_decimal demand.n)
+check_head demand = line (codes "CHECK," ++ wrench_text demand)
 
 -- what comes of the whole plant
 abbrev pub intact_text : Outcome → List ℕ
@@ -54,11 +66,8 @@ intact_text outcome = line (codes "INTACT," ++ outcome_text outcome)
 abbrev pub loss_text : Group × Outcome → List ℕ
 loss_text loss = line (codes "GROUP," ++ loss.0.name ++ codes "," ++ outcome_text loss.1)
 
--- the part of the demand that is given, the choice, the denominator and the thrusts
 abbrev pub allocation_text : Allocation → List ℕ
-allocation_text a = line (codes "ALLOCATION," ++ signed_decimal a.fraction.top ++ codes ","
-    ++ signed_decimal a.fraction.bottom ++ codes "," ++ decimal a.choice ++ codes ","
-    ++ signed_decimal a.q ++ thrusts_text a.thrusts)
+allocation_text a = line (codes "ALLOCATION," ++ given_part_text a)
 
 -- the demand, what comes of the whole plant and of each group's loss, and the allocation
 abbrev pub check_text : Parts → Wrench → Findings → List ℕ

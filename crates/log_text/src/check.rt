@@ -1,10 +1,11 @@
 //! The text of a check.
 ghost use Rattle.std.specs.Prelude.{◌≡◌, ◌++◌, IfOk, OnOk, length, string_bytes};
 ghost use Rattle.std.specs.List.{flat_map, zip};
-ghost use Rattle.log_text.specs.Outcomes.{allocation_text, check_text, intact_text, loss_text};
+ghost use Rattle.log_text.specs.Outcomes.{allocation_text, check_head, check_text, intact_text};
+ghost use Rattle.log_text.specs.Outcomes.{loss_text, wrench_text};
 
 use crate::findings::Findings;
-use crate::outcome::{push_outcome, push_thrusts};
+use crate::outcome::{push_given_part, push_outcome};
 use certificate::Outcome;
 use dp_io::NoMemory;
 use plant_core::Allocation;
@@ -12,6 +13,22 @@ use plant_model::parts::Group;
 use plant_model::plant::Plant;
 use plant_model::wrench::Wrench;
 use std::alloc::{AllocError, Global};
+
+/// Appends the demand along x, along y and in yaw.
+fn push_wrench(text: &mut String, demand: &Wrench) -> Result<(), AllocError>
+    ensures { OnOk result (string_bytes text.new ≡ string_bytes text.old ++ wrench_text demand.now) }
+{
+    let Wrench { x, y, n } = demand;
+    write!(text, "{x},{y},{n}")
+}
+
+fn push_head(text: &mut String, demand: &Wrench) -> Result<(), AllocError>
+    ensures { OnOk result (string_bytes text.new ≡ string_bytes text.old ++ check_head demand.now) }
+{
+    text.push_str("CHECK,")?;
+    push_wrench(text, demand)?;
+    text.push_str("\n")
+}
 
 fn push_intact(text: &mut String, outcome: &Outcome) -> Result<(), AllocError>
     ensures { OnOk result (string_bytes text.new
@@ -48,10 +65,8 @@ fn push_allocation(text: &mut String, allocation: &Allocation) -> Result<(), All
     ensures { OnOk result (string_bytes text.new
         ≡ string_bytes text.old ++ allocation_text allocation.now) }
 {
-    let (top, bottom) = (allocation.fraction.top, allocation.fraction.bottom);
-    let (choice, q) = (allocation.choice, allocation.q);
-    write!(text, "ALLOCATION,{top},{bottom},{choice},{q}")?;
-    push_thrusts(text, &allocation.thrusts)?;
+    text.push_str("ALLOCATION,")?;
+    push_given_part(text, allocation)?;
     text.push_str("\n")
 }
 
@@ -67,8 +82,8 @@ pub fn check_text(
     ensures { IfOk result
         (λ text. string_bytes text ≡ check_text plant.now demand findings.now) }
 {
-    let Wrench { x, y, n } = demand;
-    let mut text = format!(in alloc; "CHECK,{x},{y},{n}\n")?;
+    let mut text = String::new(alloc);
+    push_head(&mut text, &demand)?;
     push_intact(&mut text, &findings.intact)?;
     let groups = plant.groups().as_slice();
     push_losses(&mut text, groups, findings.groups.as_slice())?;

@@ -1,16 +1,18 @@
-//! The text of an outcome.
+//! The texts of outcomes and of allocations.
 ghost use Rattle.std.specs.Prelude.{◌≡◌, ◌++◌, IfOk, OnOk, string_bytes};
-ghost use Rattle.log_text.specs.Outcomes.{cuts_text, outcome_text, thrusts_text};
+ghost use Rattle.log_text.specs.Outcomes.{cuts_text, given_part_text, given_text, outcome_text};
+ghost use Rattle.log_text.specs.Outcomes.{thrusts_text};
 
 use certificate::{Cuts, Outcome};
 use dp_io::NoMemory;
+use plant_core::Allocation;
 use plant_model::plant::Plant;
 use plant_model::thrust::{Thrust, Thrusts};
 use std::alloc::{AllocError, Global};
 use wrench_geometry::Vec3;
 
 /// Appends each thruster's thrust along x and along y.
-pub(crate) fn push_thrusts(text: &mut String, thrusts: &Thrusts) -> Result<(), AllocError>
+fn push_thrusts(text: &mut String, thrusts: &Thrusts) -> Result<(), AllocError>
     ensures { OnOk result (string_bytes text.new
         ≡ string_bytes text.old ++ thrusts_text thrusts.now) }
 {
@@ -19,6 +21,25 @@ pub(crate) fn push_thrusts(text: &mut String, thrusts: &Thrusts) -> Result<(), A
         write!(text, ",{x},{y}")?;
     }
     Ok(())
+}
+
+/// Appends a choice with thrusts over a denominator.
+fn push_given(text: &mut String, choice: u32, q: i64, thrusts: &Thrusts) -> Result<(), AllocError>
+    ensures { OnOk result (string_bytes text.new
+        ≡ string_bytes text.old ++ given_text choice q thrusts.now) }
+{
+    write!(text, "{choice},{q}")?;
+    push_thrusts(text, thrusts)
+}
+
+/// Appends the part of a demand that is given, with the choice and the thrusts that give it.
+pub(crate) fn push_given_part(text: &mut String, allocation: &Allocation) -> Result<(), AllocError>
+    ensures { OnOk result (string_bytes text.new
+        ≡ string_bytes text.old ++ given_part_text allocation.now) }
+{
+    let (top, bottom) = (allocation.fraction.top, allocation.fraction.bottom);
+    write!(text, "{top},{bottom},")?;
+    push_given(text, allocation.choice, allocation.q, &allocation.thrusts)
 }
 
 /// Appends the count of cuts, and each cut along x, along y and in yaw.
@@ -40,8 +61,8 @@ pub(crate) fn push_outcome(text: &mut String, outcome: &Outcome) -> Result<(), A
 {
     match outcome {
         Outcome::Holds { choice, q, thrusts } => {
-            write!(text, "HOLDS,{choice},{q}")?;
-            push_thrusts(text, thrusts)
+            text.push_str("HOLDS,")?;
+            push_given(text, *choice, *q, thrusts)
         }
         Outcome::Lost { cuts } => {
             text.push_str("LOST,")?;

@@ -1,9 +1,14 @@
--- The lines of the groups so far were appended.
-use Rattle.std.proofs.Common.{◌≡◌, ◌++◌, string_bytes, take, length}
+-- The text so far and the lines of the groups that are left are all lines.
+use Rattle.std.proofs.Common.{◌≡◌, ◌++◌, string_bytes}
+use Rattle.std.specs.Iterator.Adapters.{zip_first, zip_second}
 use Rattle.std.specs.List.{flat_map, zip}
+use Rattle.std.specs.Slice.Iter.{iter_rest}
 use Rattle.log_text.specs.Outcomes.{loss_text}
 use Rattle.log_text.proofs.check.push_losses.Given as goal
 
 abbrev pub invariant-loop-group : goal.invariant-loop-group
-invariant-loop-group l = string_bytes l.text ≡ string_bytes l.fn.text
-    ++ flat_map loss_text (take (length l.yielded) (zip l.groups l.outcomes))
+invariant-loop-group l =
+    let groups = iter_rest (zip_first l.group-iterator) in
+    let outcomes = iter_rest (zip_second l.group-iterator) in
+    string_bytes l.text ++ flat_map loss_text (zip groups outcomes)
+    ≡ string_bytes l.fn.text ++ flat_map loss_text (zip l.groups l.outcomes)
