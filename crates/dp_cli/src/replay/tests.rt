@@ -2,6 +2,7 @@
 ghost use Rattle.std.specs.Prelude.{◌<◌};
 
 use super::*;
+use crate::run::run;
 use dp_io::{MemorySink, MemorySource, NoGate};
 use plant_file::{Key, Part, Path, PlantFault};
 use plant_model::limits::{MOST_ENTRIES, MOST_STREAM_BYTES};
