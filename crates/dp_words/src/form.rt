@@ -1,7 +1,8 @@
 //! The words of the command line.
 ghost use Rattle.std.specs.Prelude.{◌≡◌, ℕ, ◌<◌, List, [], ◌∷◌, ◌++◌, length, map, take, IfOk};
 ghost use Rattle.std.specs.Prelude.{string_bytes};
-ghost use Rattle.telegram.specs.Telegrams.{within_of};
+ghost use Rattle.plant_model.specs.Versions.{IsDemand};
+ghost use Rattle.telegram.specs.Numbers.{number_of, IsFromTo};
 ghost use Rattle.dp_words.specs.Words.{Placed as PlacedWord, is_dash, is_dashes, is_option};
 ghost use Rattle.dp_words.specs.Words.{placed, options, places, json_of, demand_of, replay_form};
 ghost use Rattle.dp_words.specs.Words.{check_form, form_of, plant_place, files_of, NamesBelow};
@@ -130,7 +131,8 @@ fn sort_words(words: &[String]) -> Sorted<'_>
 
 /// The form of `replay` with these options and places.
 fn replay_form(options: &[Placed<'_>], places: &[Placed<'_>]) -> Result<Form, u32>
-    ensures { result ≡ replay_form (map pair options.now) (map pair places.now) }
+    ensures form { result ≡ replay_form (map pair options.now) (map pair places.now) }
+    ensures demand { IfOk result AsksWithin }
 {
     match (options, places) {
         ([], [plant, telegrams]) if !(plant.is_dash() && telegrams.is_dash()) => Ok(Form::Replay {
@@ -152,29 +154,31 @@ fn json_of(options: &[Placed<'_>]) -> Option<bool>
     }
 }
 
-/// The number that a word spells, which is at most so far from 0.
-fn within(word: &str, most: i32) -> Result<i32, Reject>
-    ensures { result ≡ within_of most word.now }
+/// The number that a word spells, from `low` to `high`.
+fn whole(word: &str, low: i32, high: i32) -> Result<i32, Reject>
+    ensures value { result ≡ number_of word.now low high }
+    ensures within { IfOk result (λ z. IsFromTo low high z) }
 {
-    let most = i64::from(most);
-    let value = number(word.as_bytes(), -most, most)?;
+    let value = number(word.as_bytes(), i64::from(low), i64::from(high))?;
     Ok(value as i32)
 }
 
 /// The demand that the words spell, within its limits.
 fn demand_of(x: &str, y: &str, n: &str) -> Result<Wrench, Reject>
-    ensures { result ≡ demand_of x.now y.now n.now }
+    ensures value { result ≡ demand_of x.now y.now n.now }
+    ensures within { IfOk result IsDemand }
 {
     Ok(Wrench {
-        x: within(x, MOST_FORCE)?,
-        y: within(y, MOST_FORCE)?,
-        n: within(n, MOST_MOMENT)?,
+        x: whole(x, -MOST_FORCE, MOST_FORCE)?,
+        y: whole(y, -MOST_FORCE, MOST_FORCE)?,
+        n: whole(n, -MOST_MOMENT, MOST_MOMENT)?,
     })
 }
 
 /// The form of `check` with these options and places.
 fn check_form(options: &[Placed<'_>], places: &[Placed<'_>]) -> Result<Form, u32>
-    ensures { result ≡ check_form (map pair options.now) (map pair places.now) }
+    ensures form { result ≡ check_form (map pair options.now) (map pair places.now) }
+    ensures demand { IfOk result AsksWithin }
 {
     let [plant, x, y, n] = places else {
         return Err(3);

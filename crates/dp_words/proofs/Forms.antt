@@ -1,0 +1,168 @@
+-- What the kept options and places say of a form.
+use Rattle.std.proofs.Common.{◌≡◌, ◌≢◌, ℕ, suc, ◌+◌, ◌<◌, List, [], ◌∷◌, ◌++◌, length, take, Bool, true, false}
+use Rattle.std.proofs.Common.{not, ◌&&◌, if◌then◌else◌, Option, Some, None, Result, Ok, Err, refl, sym}
+use Rattle.std.proofs.Common.{ap, ap₂, ◌∙◌, map, subst, arith}
+use Rattle.std.proofs.lemmas.List.{length-map}
+use Rattle.std.specs.Result.{IfOk}
+use Rattle.std.specs.List.{All, filter, enumerate_from, position_or_len, before_first, after_first}
+use Rattle.std.specs.Prelude.{slice_index_or, codes}
+use Rattle.std.specs.Str.{bytes_eq}
+use Rattle.std.proofs.lemmas.List.Elements.{All-append, All-drop, All-filter, All-take}
+use Rattle.std.proofs.lemmas.List.FromFn.{length-enumerate_from, get_or-enumerate_from}
+use Rattle.plant_model.specs.declared.wrench.Wrench.{Wrench}
+use Rattle.telegram.specs.declared.telegram.Reject.{Reject}
+use Rattle.dp_words.specs.declared.form.Form.{Form}
+use Rattle.dp_words.specs.declared.form.Form.TheVariants.{Replay}
+use Rattle.dp_words.specs.declared.form.TheConstants.{KEPT_OPTIONS, KEPT_PLACES}
+use Rattle.dp_words.specs.Words.{Placed, placed, is_dash, is_dashes, is_option, options, places}
+use Rattle.dp_words.specs.Words.{replay_form, check_form, check_of, demand_of, json_of, form_of}
+use Rattle.dp_words.specs.Words.{NamesBelow}
+
+-- ---- the kept options and places are enough
+
+pub replay_kept : (all_options all : List Placed)
+    → replay_form (take KEPT_OPTIONS all_options) (take KEPT_PLACES all)
+    ≡ replay_form all_options all
+replay_kept [] [] = refl
+replay_kept [] (plant ∷ []) = refl
+replay_kept [] (plant ∷ telegrams ∷ []) = refl
+replay_kept [] (plant ∷ telegrams ∷ more ∷ rest) = refl
+replay_kept (option ∷ more) all = refl
+
+json_kept : (all : List Placed) → json_of (take KEPT_OPTIONS all) ≡ json_of all
+json_kept [] = refl
+json_kept (option ∷ []) = refl
+json_kept (option ∷ more ∷ rest) = refl
+
+pub check_kept : (all_options all : List Placed)
+    → check_form (take KEPT_OPTIONS all_options) (take KEPT_PLACES all)
+    ≡ check_form all_options all
+check_kept all_options [] = refl
+check_kept all_options (plant ∷ []) = refl
+check_kept all_options (plant ∷ x ∷ []) = refl
+check_kept all_options (plant ∷ x ∷ y ∷ []) = refl
+check_kept all_options (plant ∷ x ∷ y ∷ n ∷ []) =
+    ap (check_of plant.0 (demand_of x.1 y.1 n.1)) (json_kept all_options)
+check_kept all_options (plant ∷ x ∷ y ∷ n ∷ more ∷ rest) = refl
+
+-- another count of places than four is no form
+pub error_unless_four : (all_options all : List Placed) → length all ≢ 4
+    → Err 3 ≡ check_form all_options all
+error_unless_four all_options [] other = refl
+error_unless_four all_options (plant ∷ []) other = refl
+error_unless_four all_options (plant ∷ x ∷ []) other = refl
+error_unless_four all_options (plant ∷ x ∷ y ∷ []) other = refl
+error_unless_four all_options (plant ∷ x ∷ y ∷ n ∷ []) other = absurd (other refl)
+error_unless_four all_options (plant ∷ x ∷ y ∷ n ∷ more ∷ rest) other = refl
+
+-- ---- a form names places among the words
+
+abbrev IsBelow : ℕ → Placed → Type 0
+IsBelow count word = word.0 < count
+
+placed_below : (words : List (List ℕ)) → All (IsBelow (length words + 1)) (placed words)
+placed_below words k d below =
+    let within : k < length words = omega (arith, below, length-enumerate_from 1 words) in
+    let is = get_or-enumerate_from 1 words k d within in
+    subst (IsBelow (length words + 1)) (sym is) (omega (arith, within))
+
+places_below : (count : ℕ) (words : List Placed) → All (IsBelow count) words
+    → All (IsBelow count) (places words)
+places_below count words below =
+    let before = before_first is_dashes words in
+    All-append (IsBelow count) (filter (λ word. not (is_option word)) before)
+    (after_first is_dashes words)
+    (All-filter (λ word. not (is_option word)) (IsBelow count) before
+    (All-take (IsBelow count) (position_or_len is_dashes words) words below))
+    (All-drop (IsBelow count) (position_or_len is_dashes words + 1) words below)
+
+replay_below : (count : ℕ) (all_options all : List Placed) → All (IsBelow count) all
+    → IfOk (replay_form all_options all) (λ form. NamesBelow form count)
+replay_below count [] [] below = tt
+replay_below count [] (plant ∷ []) below = tt
+replay_below count [] (plant ∷ telegrams ∷ []) below =
+    by (is_dash plant && is_dash telegrams)
+  where
+    by : (b : Bool) → IfOk {E = ℕ} (if b then Err 3 else Ok (Replay plant.0 telegrams.0))
+        (λ form. NamesBelow form count)
+    by true = tt
+    by false = (below 0 plant (omega arith), below 1 plant (omega arith))
+replay_below count [] (plant ∷ telegrams ∷ more ∷ rest) below = tt
+replay_below count (option ∷ more) all below = tt
+
+check_of_below : (count plant : ℕ) (demand : Result Wrench Reject) (json : Option Bool)
+    → plant < count → IfOk (check_of plant demand json) (λ form. NamesBelow form count)
+check_of_below count plant (Ok demand) (Some json) below = below
+check_of_below count plant (Ok demand) None below = tt
+check_of_below count plant (Err reject) json below = tt
+
+check_below : (count : ℕ) (all_options all : List Placed) → All (IsBelow count) all
+    → IfOk (check_form all_options all) (λ form. NamesBelow form count)
+check_below count all_options [] below = tt
+check_below count all_options (plant ∷ []) below = tt
+check_below count all_options (plant ∷ x ∷ []) below = tt
+check_below count all_options (plant ∷ x ∷ y ∷ []) below = tt
+check_below count all_options (plant ∷ x ∷ y ∷ n ∷ []) below =
+    check_of_below count plant.0 (demand_of x.1 y.1 n.1) (json_of all_options)
+    (below 0 plant (omega arith))
+check_below count all_options (plant ∷ x ∷ y ∷ n ∷ more ∷ rest) below = tt
+
+command_below : (count : ℕ) (all_options all : List Placed) (replay check : Bool)
+    → All (IsBelow count) all
+    → IfOk {E = ℕ} (if replay then replay_form all_options all
+    else (if check then check_form all_options all else Err 2)) (λ form. NamesBelow form count)
+command_below count all_options all true check below = replay_below count all_options all below
+command_below count all_options all false true below = check_below count all_options all below
+command_below count all_options all false false below = tt
+
+-- the places of a form are among the words
+pub names_below : (words : List (List ℕ))
+    → IfOk (form_of words) (λ form. NamesBelow form (length words))
+names_below [] = tt
+names_below (command ∷ words) =
+    let count : length words + 1 ≡ suc (length words) = omega arith in
+    subst (λ n. IfOk (form_of (command ∷ words)) (λ form. NamesBelow form n)) count
+    (command_below (length words + 1) (options (placed words)) (places (placed words))
+    (bytes_eq command (codes "replay")) (bytes_eq command (codes "check"))
+    (places_below (length words + 1) (placed words) (placed_below words)))
+
+pub names_of : {X : Type 0} (f : X → List ℕ) (words : List X) (form : Result Form ℕ)
+    → form ≡ form_of (map f words) → IfOk form (λ one. NamesBelow one (length words))
+names_of f words form is =
+    subst (λ count. IfOk form (λ one. NamesBelow one count)) (length-map words f)
+    (subst (λ one. IfOk one (λ found. NamesBelow found (length (map f words)))) (sym is)
+    (names_below (map f words)))
+
+-- ---- the form of a command
+
+command-is : {X : Type 0} (f : X → List ℕ) (words rest : List X) (command : X) (name : List ℕ)
+    → words ≡ command ∷ rest → name ≡ f command
+    → form_of (name ∷ map f rest) ≡ form_of (map f words)
+command-is f words rest command name split named =
+    ap (λ text. form_of (text ∷ map f rest)) named ∙ ap (λ xs. form_of (map f xs)) (sym split)
+
+-- `replay`, of the kept options and places
+pub form_of_replay : {X : Type 0} (f : X → List ℕ) (words rest : List X) (command : X)
+    (name : List ℕ) (kept_options kept : List Placed)
+    → words ≡ command ∷ rest → name ≡ f command → name ≡ codes "replay"
+    → kept_options ≡ take KEPT_OPTIONS (options (placed (map f rest)))
+    → kept ≡ take KEPT_PLACES (places (placed (map f rest)))
+    → replay_form kept_options kept ≡ form_of (map f words)
+form_of_replay f words rest command name kept_options kept split named is options_are places_are =
+    ap₂ replay_form options_are places_are
+    ∙ replay_kept (options (placed (map f rest))) (places (placed (map f rest)))
+    ∙ ap (λ text. form_of (text ∷ map f rest)) (sym is)
+    ∙ command-is f words rest command name split named
+
+-- `check` likewise
+pub form_of_check : {X : Type 0} (f : X → List ℕ) (words rest : List X) (command : X)
+    (name : List ℕ) (kept_options kept : List Placed)
+    → words ≡ command ∷ rest → name ≡ f command → name ≡ codes "check"
+    → kept_options ≡ take KEPT_OPTIONS (options (placed (map f rest)))
+    → kept ≡ take KEPT_PLACES (places (placed (map f rest)))
+    → check_form kept_options kept ≡ form_of (map f words)
+form_of_check f words rest command name kept_options kept split named is options_are places_are =
+    ap₂ check_form options_are places_are
+    ∙ check_kept (options (placed (map f rest))) (places (placed (map f rest)))
+    ∙ ap (λ text. form_of (text ∷ map f rest)) (sym is)
+    ∙ command-is f words rest command name split named
