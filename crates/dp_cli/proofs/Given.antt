@@ -1,6 +1,7 @@
 -- What a source gave and a sink took in one call after another.
 use Rattle.std.proofs.Common.{◌≡◌, ℕ, ◌+◌, ◌≤◌, List, ◌++◌, length, take, drop, Option, Some}
-use Rattle.std.proofs.Common.{None, sym, ◌∙◌, ap, subst, inl, inr, append_assoc, arith}
+use Rattle.std.proofs.Common.{None, Bool, true, false, not, refl, sym, ◌∙◌, ap, subst, inl, inr}
+use Rattle.std.proofs.Common.{append_assoc, arith}
 use Rattle.std.proofs.Math.Seq.{take-append_seam, take-append-add}
 use Rattle.std.proofs.lemmas.Bool.{cases_lt}
 use Rattle.std.proofs.lemmas.List.{take-append-drop, take-append-le, take-take}
@@ -66,3 +67,8 @@ take-limit most fed piece room count full less =
     let P : ℕ → Type 0 = λ n. take n (fed ++ take count piece) ≡ fed ++ take room piece in
     subst P full (take-append-add fed (take count piece) room
     ∙ ap (λ (t : List ℕ). fed ++ t) (take-take room count piece less))
+
+-- a test that isn't denied
+pub true_from_not : (b : Bool) → not b ≡ false → b ≡ true
+true_from_not true denied = refl
+true_from_not false denied = cc

@@ -1,12 +1,14 @@
 pub mod Answered
 pub mod Answers
 pub mod Arguments
+pub mod Checked
 pub mod Closed
 pub mod Counted
 pub mod Endings
 pub mod Fronts
 pub mod Given
 pub mod Logs
+pub mod Losses
 pub mod Plants
 pub mod Streams
 pub mod Texted

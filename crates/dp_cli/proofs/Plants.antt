@@ -181,19 +181,20 @@ missed-none words status word first named none there fine = absurd none
 
 -- ---- the plant's word
 
--- what is seen of one of a list's elements
-seen-at : {A : Type 0} (f : A → List ℕ) (xs : List A) (place : ℕ) (x : A) → place < length xs
-    → x ≡ get_or xs place x
-    → f x ≡ slice_index_or (map f xs) place []
-seen-at f xs place x h is = ap f is ∙ sym (get_or-map f xs place x [] h)
+-- a word, as it was taken from the words
+pub word-at : {A : Type 0} (f : A → List ℕ) (xs : List A) (x : A) (word : List ℕ) (place : ℕ)
+    → place < length xs → x ≡ get_or xs place x → word ≡ f x
+    → word ≡ slice_index_or (map f xs) place []
+word-at f xs x word place within at_x spelled =
+    spelled ∙ ap f at_x ∙ sym (get_or-map f xs place x [] within)
 
--- the plant's word, as it was taken from the words
+-- the plant's word
 pub named-at : {A : Type 0} (f : A → List ℕ) (xs : List A) (x : A) (form : Form) (word : List ℕ)
     (place : ℕ) → form_of (map f xs) ≡ Ok form → place ≡ plant_place form → place < length xs
     → x ≡ get_or xs place x → word ≡ f x → HasPlant (map f xs) word
 named-at f xs x form word place is_form at_place within at_x spelled = (
   form,
   is_form,
-  spelled ∙ seen-at f xs place x within at_x
+  word-at f xs x word place within at_x spelled
       ∙ ap (λ (n : ℕ). slice_index_or (map f xs) n []) at_place,
 )

@@ -110,10 +110,10 @@ findings_text plant demand json findings =
 
 -- the text tells findings that are right
 pub record TellsFindings (plant : Parts) (demand : Wrench) (json : Bool) (text : List ℕ) : Type 0
-    where
-  pub findings : Findings
-  pub right : AreRight plant demand findings
-  pub is : text ≡ findings_text plant demand json findings
+  where
+    pub findings : Findings
+    pub right : AreRight plant demand findings
+    pub is : text ≡ findings_text plant demand json findings
 
 -- the sink took such a text
 abbrev pub TookFindings : Parts → Wrench → Bool → Shown → Type 0
@@ -146,20 +146,20 @@ IsUnwritten _ = ⊥
 
 -- What the bytes written say at each status.
 pub record HasFindings (words : List (List ℕ)) (status : RunStatus) (first out : Shown) : Type 0
-    where
-  pub held : status ≡ statuses.Clear → WritesFindings words false first out
-  pub lost : status ≡ statuses.LossFound → WritesFindings words true first out
-  pub part : status ≡ statuses.WriteFault → WritesSomeFindings words first out
-  pub unwritten : IsUnwritten status → out.after ≡ out.before
+  where
+    pub held : status ≡ statuses.Clear → WritesFindings words false first out
+    pub lost : status ≡ statuses.LossFound → WritesFindings words true first out
+    pub part : status ≡ statuses.WriteFault → WritesSomeFindings words first out
+    pub unwritten : IsUnwritten status → out.after ≡ out.before
 
 -- When each status comes. A check has no stream and no history.
 pub record HasCheckCause (words : List (List ℕ)) (status : RunStatus) (first out : Shown) : Type 0
-    where
-  pub plant : HasPlantCause words status first
-  pub read_fault : status ≡ statuses.ReadFault → HasRisen first
-  pub write_fault : status ≡ statuses.WriteFault → HasRisen out
-  pub no_stream : status ≢ statuses.StreamTooLong
-  pub no_history : status ≢ statuses.JournalFull
+  where
+    pub plant : HasPlantCause words status first
+    pub read_fault : status ≡ statuses.ReadFault → HasRisen first
+    pub write_fault : status ≡ statuses.WriteFault → HasRisen out
+    pub no_stream : status ≢ statuses.StreamTooLong
+    pub no_history : status ≢ statuses.JournalFull
 
 -- A plant and counts of faults that don't rise give Clear or LossFound, unless memory runs out.
 abbrev pub IsCheckComplete : List (List ℕ) → RunStatus → Shown → Shown → Type 0
@@ -169,10 +169,10 @@ IsCheckComplete words status first out =
 
 -- How a check ends with this status, of the plant source and a sink that showed this.
 pub record EndsFindings (words : List (List ℕ)) (status : RunStatus) (first out : Shown) : Type 0
-    where
-  pub findings : HasFindings words status first out
-  pub causes : HasCheckCause words status first out
-  pub complete : IsCheckComplete words status first out
+  where
+    pub findings : HasFindings words status first out
+    pub causes : HasCheckCause words status first out
+    pub complete : IsCheckComplete words status first out
 
 -- How a call of the program ends that checks: as above, with the line told, and the plant source,
 -- of this value before and after it, as it was where no word names it.

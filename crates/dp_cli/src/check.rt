@@ -1,20 +1,39 @@
 //! The top call of `check`.
-ghost use Rattle.std.specs.Prelude.{◌≡◌, IfOk, map, string_bytes, true};
+ghost use Rattle.std.specs.Prelude.{◌≡◌, IfOk, length, map, string_bytes, true};
 ghost use Rattle.plant_model.specs.Versions.{IsDemand};
 ghost use Rattle.dp_words.specs.Shown.{shown};
 ghost use Rattle.dp_cli.specs.Checks.{EndsCheck, EndsFindings, IsSo, TookFindings};
-ghost use Rattle.dp_cli.specs.Checks.{TookSomeFindings, names_check};
+ghost use Rattle.dp_cli.specs.Checks.{TookSomeFindings, findings_text, names_check};
 ghost use Rattle.dp_cli.specs.Plants.{NamesNoFile};
 ghost use Rattle.dp_cli.specs.Writing.{EndsWriting};
 
 use crate::findings::{findings_of, has_lost};
 use crate::writing::send_lines;
-use dp_io::{Sink, Source};
+use dp_io::{NoMemory, Sink, Source};
 use dp_words::{Form, RunStatus, form_of, plant_from, tell};
-use log_text::{check_json, check_text};
+use log_text::{Findings, check_json, check_text};
 use plant_model::plant::Plant;
 use plant_model::wrench::Wrench;
 use std::alloc::Global;
+
+/// The text of what was found, which has an outcome for each group, as JSON or not.
+fn findings_text(
+    alloc: Global,
+    plant: &Plant,
+    demand: Wrench,
+    json: bool,
+    findings: &Findings,
+) -> Result<String, NoMemory>
+    requires { length findings.now.groups.items ≡ length plant.now.groups.items }
+    ensures { IfOk result (λ text. string_bytes text
+        ≡ findings_text plant.now demand json findings.now) }
+{
+    if json {
+        check_json(alloc, plant, demand, findings)
+    } else {
+        check_text(alloc, plant, demand, findings)
+    }
+}
 
 /// Checks the demand, which is within its limits, on the plant as it opens, and writes what is found. True where some
 /// outcome is a `Lost`. The text is made whole before its first line is written. The error is `WriteFault` or
@@ -35,11 +54,7 @@ fn write_check<O: Sink>(
     ensures writing { EndsWriting result (shown O.taken O.faults out.old out.new) }
 {
     let findings = findings_of(plant, demand);
-    let text = if json {
-        check_json(alloc, plant, demand, &findings)?
-    } else {
-        check_text(alloc, plant, demand, &findings)?
-    };
+    let text = findings_text(alloc, plant, demand, json, &findings)?;
     send_lines(out, text.as_bytes())?;
     Ok(has_lost(&findings))
 }
@@ -57,11 +72,13 @@ fn check<A: Source, O: Sink>(
     ensures unread { NamesNoFile (map string_bytes words.now) → first.new ≡ first.old }
 {
     let (place, demand, json) = match form_of(words) {
-        Ok(Form::Check {
-            plant,
-            demand,
-            json,
-        }) => (plant, demand, json),
+        Ok(
+            Form::Check {
+                plant,
+                demand,
+                json,
+            },
+        ) => (plant, demand, json),
         Ok(Form::Replay { .. }) => return RunStatus::Usage(2),
         Err(kind) => return RunStatus::Usage(kind),
     };

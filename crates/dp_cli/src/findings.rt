@@ -1,5 +1,6 @@
 //! What a check finds.
 ghost use Rattle.std.specs.Prelude.{◌≡◌};
+ghost use Rattle.std.specs.List.{list_any};
 ghost use Rattle.plant_model.specs.Versions.{IsDemand};
 ghost use Rattle.dp_cli.specs.Checks.{AreRight, AreVerdicts, has_lost, is_lost};
 
@@ -44,9 +45,15 @@ fn is_lost(outcome: &Outcome) -> bool
     matches!(outcome, Outcome::Lost { .. })
 }
 
+fn any_lost(outcomes: &[Outcome]) -> bool
+    ensures { result ≡ list_any is_lost outcomes.now }
+{
+    outcomes.iter().any(|outcome| is_lost(outcome))
+}
+
 /// Whether some outcome is a `Lost`.
 pub fn has_lost(findings: &Findings) -> bool
     ensures { result ≡ has_lost findings.now }
 {
-    is_lost(&findings.intact) || findings.groups.iter().any(|outcome| is_lost(outcome))
+    is_lost(&findings.intact) || any_lost(findings.groups.as_slice())
 }

@@ -8,7 +8,7 @@ use Rattle.plant_core.specs.Machine.{CoreView}
 use Rattle.dp_cli.specs.Sessions.{AnswersItems}
 use Rattle.dp_cli.specs.Steps.{TakesItem}
 use Rattle.dp_cli.proofs.Answered.{answered-more, false_from_not, filled-byte}
-use Rattle.dp_words.proofs.WordLemmas.{true_from_not}
+use Rattle.dp_cli.proofs.Given.{true_from_not}
 use Rattle.dp_cli.proofs.session.take_bytes.Goals as goal
 use Rattle.dp_cli.proofs.session.take_bytes.Goals.{in-Some+in_ok-take_item+else-not-branch}
 use Rattle.dp_cli.proofs.session.take_bytes.Goals.{in_default}

@@ -11,7 +11,7 @@ use Rattle.dp_cli.proofs.Answered.{false_from_not}
 use Rattle.dp_cli.proofs.Given.{gave-more, take-limit}
 use Rattle.dp_cli.proofs.Streams.{emptied-after, piece-split, stream-ended, stream-full}
 use Rattle.dp_cli.proofs.Streams.{stream-long}
-use Rattle.dp_words.proofs.WordLemmas.{true_from_not}
+use Rattle.dp_cli.proofs.Given.{true_from_not}
 use Rattle.dp_cli.proofs.session.take_stream.Goals as goal
 
 pub returns-then-count-eq0-clause-answered : goal.returns-then-count-eq0-clause-answered
