@@ -26,6 +26,22 @@ pub enum Outcome {
     },
 }
 
+/// No cut, of no choice.
+impl Default for Outcome {
+    ghost use Rattle.std.specs.Prelude.{◌≡◌, []};
+    ghost use Rattle.certificate.specs.declared.outcome.Outcome.TheVariants.{Lost};
+
+    ghost is_default = { λ outcome. outcome ≡ Lost (record { list = record { items = [] } }) };
+
+    fn default() -> Self {
+        Outcome::Lost {
+            cuts: Cuts {
+                list: ArrayVec::new(),
+            },
+        }
+    }
+}
+
 /// What an outcome is judged by, in the order of judging: first what a `Holds` says, then what a
 /// `Lost` says.
 #[derive(Clone, Copy, Debug, PartialEq, Eq)]

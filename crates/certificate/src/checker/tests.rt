@@ -9,6 +9,7 @@ use arrayvec::ArrayVec;
 use plant_model::demo::demo;
 use plant_model::limits::{MOST_CHOICES, MOST_THRUSTERS};
 use plant_model::thrust::{Thrust, Thrusts};
+use wrench_geometry::Vec3;
 
 /// The loss of section A.
 const GA: Loss = Loss::Group(0);
