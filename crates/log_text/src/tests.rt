@@ -1,5 +1,5 @@
 //! An entry, an empty history, and checks of the demo as plain text and as JSON.
-ghost use Rattle.std.specs.Prelude.{◌≡◌, ◌≤◌, length, pos, IfOk};
+ghost use Rattle.std.specs.Prelude.{◌≡◌, ◌≤◌, length, pos};
 ghost use Rattle.std.specs.Prelude.{◌≤ℤ◌};
 ghost use Rattle.plant_model.specs.declared.limits.TheConstants.{MOST_THRUSTERS};
 
@@ -12,7 +12,6 @@ use plant_model::demo::demo;
 use plant_model::limits::MOST_ENTRIES;
 use plant_model::thrust::{Thrust, Thrusts};
 use plant_model::wrench::Wrench;
-use std::alloc::Global;
 use std::test::Fail;
 use wrench_geometry::Vec3;
 
@@ -57,22 +56,17 @@ fn allocation(top: i64, bottom: i64) -> Allocation
 }
 
 /// What is found of a plant of two groups.
-fn findings(
-    alloc: Global,
-    first: Outcome,
-    second: Outcome,
-    allocation: Allocation,
-) -> Result<Findings, Fail>
-    ensures { IfOk result (λ findings. length findings.groups.items ≡ 2) }
+fn findings(first: Outcome, second: Outcome, allocation: Allocation) -> Findings
+    ensures { length result.groups.items ≡ 2 }
 {
-    let mut groups = Vec::new(alloc);
-    groups.push(first)?;
-    groups.push(second)?;
-    Ok(Findings {
+    let mut groups = ArrayVec::new();
+    groups.push(first);
+    groups.push(second);
+    Findings {
         intact: holds(),
         groups,
         allocation,
-    })
+    }
 }
 
 #[test]
@@ -99,7 +93,7 @@ fn tells_an_entry_and_an_empty_history(rt: HostRuntime) -> Result<(), Fail> {
 #[test]
 fn nothing_is_asked(rt: HostRuntime) -> Result<(), Fail> {
     let alloc = rt.alloc();
-    let findings = findings(alloc, holds(), holds(), allocation(1, 1))?;
+    let findings = findings(holds(), holds(), allocation(1, 1));
     let text = check_text(alloc, &demo(), NOTHING, &findings)?;
     assert_eq!(rt;
         text.as_str(),
@@ -130,7 +124,7 @@ fn nothing_is_asked(rt: HostRuntime) -> Result<(), Fail> {
 fn a_loss_is_found(rt: HostRuntime) -> Result<(), Fail> {
     let alloc = rt.alloc();
     let ahead = Vec3 { x: 1, y: 0, z: 0 };
-    let findings = findings(alloc, holds(), lost(ahead), allocation(380, 381))?;
+    let findings = findings(holds(), lost(ahead), allocation(380, 381));
     let demand = Wrench {
         x: -20,
         y: 381,
