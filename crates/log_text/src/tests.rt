@@ -1,4 +1,4 @@
-//! Checks of the demo as plain text and as JSON.
+//! An entry, an empty history, and checks of the demo as plain text and as JSON.
 ghost use Rattle.std.specs.Prelude.{◌≡◌, ◌≤◌, length, pos};
 ghost use Rattle.std.specs.Prelude.{◌≤ℤ◌};
 ghost use Rattle.plant_model.specs.declared.limits.TheConstants.{MOST_THRUSTERS};
@@ -7,8 +7,9 @@ use super::*;
 use arrayvec::ArrayVec;
 use certificate::{Cuts, Outcome};
 use dp_num::Fraction;
-use plant_core::Allocation;
+use plant_core::{Allocation, Call, Core, Entry, Note, Reply};
 use plant_model::demo::demo;
+use plant_model::limits::MOST_ENTRIES;
 use plant_model::thrust::{Thrust, Thrusts};
 use plant_model::wrench::Wrench;
 use std::test::Fail;
@@ -66,6 +67,27 @@ fn findings(first: Outcome, second: Outcome, allocation: Allocation) -> Findings
         groups,
         allocation,
     }
+}
+
+#[test]
+fn tells_an_entry_and_an_empty_history(rt: HostRuntime) -> Result<(), Fail> {
+    let alloc = rt.alloc();
+    let entry = Entry {
+        caller: 3,
+        call: Call::Note(Note::Stray),
+        reply: Reply::Noted,
+    };
+    assert_eq!(rt;
+        entry_text(alloc, &demo(), &entry)?.as_str(),
+        "W1 STRAY = NOTED\n"
+    );
+    let core = Core::start(alloc, demo(), MOST_ENTRIES)?;
+    assert_eq!(rt; log_head(alloc, core.plant())?.as_str(), "LOG,1,DEMO\n");
+    assert_eq!(rt;
+        report_text(alloc, &core)?.as_str(),
+        "REPORT,0,0\nGROUP,GA,PENDING\nGROUP,GB,PENDING\nEND\n"
+    );
+    Ok(())
 }
 
 #[test]
