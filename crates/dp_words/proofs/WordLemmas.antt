@@ -1,6 +1,6 @@
 -- Words that are sorted one after another, at the first `--`.
 use Rattle.std.proofs.Common.{◌≡◌, ℕ, suc, ◌+◌, ◌<◌, ◌≤◌, ◌↔◌, List, [], ◌∷◌, ◌++◌, length, map, take}
-use Rattle.std.proofs.Common.{drop, min, Bool, true, false, not, cond, ◌||◌, Result, Ok, Err, refl, sym}
+use Rattle.std.proofs.Common.{drop, Bool, true, false, not, cond, ◌||◌, Result, Ok, Err, refl, sym}
 use Rattle.std.proofs.Common.{ap, ap₂, ◌∙◌, arith, append_assoc, get_or}
 use Rattle.std.specs.Result.{IsOk, OnOk, OnErr}
 use Rattle.std.specs.List.{filter, position_or_len, before_first, after_first, list_any}
