@@ -1,6 +1,7 @@
 -- Words that are sorted one after another, at the first `--`.
-use Rattle.std.proofs.Common.{◌≡◌, ℕ, suc, ◌+◌, ◌<◌, ◌≤◌, ◌↔◌, List, [], ◌∷◌, ◌++◌, length, map, take}
-use Rattle.std.proofs.Common.{drop, min, Bool, true, false, not, cond, ◌||◌, Result, Ok, Err, refl, sym}
+use Rattle.std.proofs.Common.{◌≡◌, ℕ, suc, ◌+◌, ◌<◌, ◌≤◌, ◌↔◌, List, []}
+use Rattle.std.proofs.Common.{◌∷◌, ◌++◌, length, map, take}
+use Rattle.std.proofs.Common.{drop, Bool, true, false, not, cond, ◌||◌, Result, Ok, Err, refl, sym}
 use Rattle.std.proofs.Common.{ap, ap₂, ◌∙◌, arith, append_assoc, get_or}
 use Rattle.std.specs.Result.{IsOk, OnOk, OnErr}
 use Rattle.std.specs.List.{filter, position_or_len, before_first, after_first, list_any}
@@ -19,7 +20,8 @@ module _ {X : Type 0} (p : X → Bool) where
   before_at x xs passes =
       ap (λ b. take (cond (not b) (1 + position_or_len p xs) 0) (x ∷ xs)) passes
 
-  before_past : (x : X) (xs : List X) → p x ≡ false → before_first p (x ∷ xs) ≡ x ∷ before_first p xs
+  before_past : (x : X) (xs : List X) → p x ≡ false
+      → before_first p (x ∷ xs) ≡ x ∷ before_first p xs
   before_past x xs fails =
       let count : 1 + position_or_len p xs ≡ suc (position_or_len p xs) = omega arith in
       ap (λ b. take (cond (not b) (1 + position_or_len p xs) 0) (x ∷ xs)) fails
@@ -201,7 +203,8 @@ next_word f words i x text below is named =
     take_more (placed (map f words)) i (0, f x) in_all
     ∙ ap (λ word. take i (placed (map f words)) ++ word ∷ [])
     (get_or-enumerate_from 1 (map f words) i (0, f x) count
-    ∙ ap₂ (λ at word. (at, word)) place (get_or-map f words i x (f x) below ∙ ap f (sym is) ∙ sym named))
+    ∙ ap₂ (λ at word. (at, word)) place
+    (get_or-map f words i x (f x) below ∙ ap f (sym is) ∙ sym named))
 
 -- the words so far, where they are all
 pub all_words : {X : Type 0} (f : X → List ℕ) (words : List X) (i : ℕ) → length words ≤ i

@@ -1,9 +1,9 @@
 -- The words after a command, sorted one after another.
-use Rattle.std.specs.Prelude.{◌≡◌, ℕ, List, map, take}
+use Rattle.std.specs.Prelude.{◌≡◌, List, map, take}
 use Rattle.std.specs.List.{list_any}
-use Rattle.dp_words.specs.declared.form.TheConstants.{KEPT_OPTIONS, KEPT_PLACES}
-use Rattle.dp_words.specs.declared.form.Placed.{Placed as Word}
-use Rattle.dp_words.specs.declared.form.Sorted.{Sorted}
+use Rattle.dp_words.specs.declared.sorting.TheConstants.{KEPT_OPTIONS, KEPT_PLACES}
+use Rattle.dp_words.specs.declared.sorting.Placed.{Placed as Word}
+use Rattle.dp_words.specs.declared.sorting.Sorted.{Sorted}
 use Rattle.dp_words.specs.Words.{Placed, is_dashes, options, places}
 
 -- the word with its place

@@ -1,7 +1,7 @@
 -- The words of the command line: which have a written form, and what the form says.
-use Rattle.std.specs.Prelude.{ℕ, ◌<◌, List, [], ◌∷◌, ◌++◌, length, Bool, true, false, not, ◌&&◌, ◌==◌, nat_lt}
-use Rattle.std.specs.Prelude.{slice_index, slice_index_or, Option, Some, None, Result, Ok, Err}
-use Rattle.std.specs.Prelude.{if◌then◌else◌, codes}
+use Rattle.std.specs.Prelude.{ℕ, ◌<◌, List, [], ◌∷◌, ◌++◌, length, Bool, true, false, not, ◌&&◌}
+use Rattle.std.specs.Prelude.{◌==◌, nat_lt, slice_index, slice_index_or, Option, Some, None}
+use Rattle.std.specs.Prelude.{Result, Ok, Err, if◌then◌else◌, codes}
 use Rattle.std.specs.List.{filter, enumerate_from, before_first, after_first}
 use Rattle.std.specs.Str.{bytes_eq}
 use Rattle.plant_model.specs.Names.{dash}
@@ -17,7 +17,7 @@ use Rattle.dp_words.specs.declared.form.Form.TheVariants.{Check, Replay}
 abbrev pub Placed : Type 0
 Placed = ℕ × List ℕ
 
--- the words after the command
+-- the words after the command, each with its place
 abbrev pub placed : List (List ℕ) → List Placed
 placed words = enumerate_from 1 words
 
@@ -50,7 +50,7 @@ replay_form [] (plant ∷ telegrams ∷ []) =
 replay_form [] (plant ∷ telegrams ∷ more ∷ rest) = Err 3
 replay_form (option ∷ more) all = Err 3
 
--- whether `--json` is asked for, where the options are none but it, at most once
+-- whether `--json` is the option; neither where another is, or more than one
 abbrev pub json_of : List Placed → Option Bool
 json_of [] = Some false
 json_of (option ∷ []) = if bytes_eq option.1 (codes "--json") then Some true else None
@@ -64,7 +64,7 @@ demand_of x y n = do
   yaw ← within_of MOST_MOMENT n
   Ok (record { x = surge; y = sway; n = yaw })
 
--- a check of the plant at this place, where there are a demand and right options
+-- a check of the plant at this place, where the demand and the option are right
 abbrev pub check_of : ℕ → Result Wrench Reject → Option Bool → Result Form ℕ
 check_of plant (Ok demand) (Some json) = Ok (Check plant demand json)
 check_of plant (Ok demand) None = Err 3

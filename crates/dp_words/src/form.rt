@@ -1,15 +1,12 @@
 //! The words of the command line.
-ghost use Rattle.std.specs.Prelude.{◌≡◌, ℕ, ◌<◌, List, [], ◌∷◌, ◌++◌, length, map, take, IfOk};
-ghost use Rattle.std.specs.Prelude.{string_bytes};
+ghost use Rattle.std.specs.Prelude.{◌≡◌, ℕ, ◌<◌, length, map, IfOk, string_bytes};
 ghost use Rattle.plant_model.specs.Versions.{IsDemand};
 ghost use Rattle.telegram.specs.Numbers.{number_of, IsFromTo};
-ghost use Rattle.dp_words.specs.Words.{Placed as PlacedWord, is_dash, is_dashes, is_option};
-ghost use Rattle.dp_words.specs.Words.{placed, options, places, json_of, demand_of, replay_form};
-ghost use Rattle.dp_words.specs.Words.{check_form, form_of, plant_place, files_of, NamesBelow};
-ghost use Rattle.dp_words.specs.Words.{AsksWithin};
-ghost use Rattle.dp_words.specs.Sorting.{HasSorted, pair};
+ghost use Rattle.dp_words.specs.Sorting.{pair};
+ghost use Rattle.dp_words.specs.Words.{replay_form, json_of, demand_of, check_form, form_of};
+ghost use Rattle.dp_words.specs.Words.{plant_place, files_of, NamesBelow, AsksWithin};
 
-use arrayvec::ArrayVec;
+use crate::sorting::{Placed, sort_words};
 use plant_model::limits::{MOST_FORCE, MOST_MOMENT};
 use plant_model::wrench::Wrench;
 use telegram::{Reject, number};
@@ -40,93 +37,6 @@ impl Form {
             Form::Replay { plant, .. } | Form::Check { plant, .. } => plant,
         }
     }
-}
-
-/// The options that are kept of the words: one more than any command has.
-const KEPT_OPTIONS: usize = 2;
-
-/// The places that are kept of the words: one more than any command has.
-const KEPT_PLACES: usize = 5;
-
-/// A word with its place among all the words.
-#[derive(Clone, Copy, Default)]
-struct Placed<'a> {
-    place: usize,
-    word: &'a str,
-}
-
-impl Placed<'_> {
-    fn is_dash(&self) -> bool
-        ensures { result ≡ is_dash (pair self.now) }
-    {
-        self.word == "-"
-    }
-
-    fn is_dashes(&self) -> bool
-        ensures { result ≡ is_dashes (pair self.now) }
-    {
-        self.word == "--"
-    }
-
-    /// It starts with `-` and is longer than that.
-    fn is_option(&self) -> bool
-        ensures { result ≡ is_option (pair self.now) }
-    {
-        self.word.len() > 1 && self.word.as_bytes()[0] == b'-'
-    }
-}
-
-/// The words after a command so far, sorted: the first options and the first places.
-#[derive(Drop)]
-struct Sorted<'a> {
-    had_dashes: bool,
-    options: ArrayVec<Placed<'a>, KEPT_OPTIONS>,
-    places: ArrayVec<Placed<'a>, KEPT_PLACES>,
-}
-
-impl<'a> Sorted<'a> {
-    fn new() -> Sorted<'a>
-        ensures { HasSorted result [] }
-    {
-        Sorted {
-            had_dashes: false,
-            options: ArrayVec::new(),
-            places: ArrayVec::new(),
-        }
-    }
-
-    /// Sorts the next word. An option or a place that isn't kept is dropped.
-    fn sort(&mut self, word: Placed<'a>)
-        ensures { (words : List PlacedWord) → HasSorted self.old words
-            → HasSorted self.new (words ++ pair word.entry ∷ []) }
-    {
-        if self.had_dashes {
-            let _ = self.places.try_push(word);
-        } else if word.is_dashes() {
-            self.had_dashes = true;
-        } else if word.is_option() {
-            let _ = self.options.try_push(word);
-        } else {
-            let _ = self.places.try_push(word);
-        }
-    }
-}
-
-/// The words that stand after a command, sorted.
-fn sort_words(words: &[String]) -> Sorted<'_>
-    ensures options { map pair result.options.items
-        ≡ take KEPT_OPTIONS (options (placed (map string_bytes words.now))) }
-    ensures places { map pair result.places.items
-        ≡ take KEPT_PLACES (places (placed (map string_bytes words.now))) }
-{
-    let mut sorted = Sorted::new();
-    for (index, word) in words.iter().enumerate() {
-        sorted.sort(Placed {
-            place: index + 1,
-            word: word.as_str(),
-        });
-    }
-    sorted
 }
 
 /// The form of `replay` with these options and places.

@@ -4,6 +4,7 @@
 mod form;
 mod line;
 mod plant_source;
+mod sorting;
 mod status;
 
 pub use form::{Form, file_words, form_of};

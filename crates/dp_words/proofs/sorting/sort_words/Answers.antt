@@ -1,12 +1,10 @@
 -- Each word is sorted with its place.
-use Rattle.std.proofs.Common.{arith, length, map, string_bytes, subst, sym, take, ◌+◌, ◌≡◌, ◌≤◌, ◌∙◌, ap}
-use Rattle.std.proofs.lemmas.List.{length-map, take_all}
-use Rattle.std.proofs.lemmas.List.FromFn.{length-enumerate_from}
+use Rattle.std.proofs.Common.{map, string_bytes, subst, sym, take, ◌∙◌, ap}
 use Rattle.dp_words.specs.Sorting.{HasSorted}
 use Rattle.dp_words.specs.Words.{options, placed, places}
-use Rattle.dp_words.specs.declared.form.TheConstants.{KEPT_OPTIONS, KEPT_PLACES}
+use Rattle.dp_words.specs.declared.sorting.TheConstants.{KEPT_OPTIONS, KEPT_PLACES}
 use Rattle.dp_words.proofs.WordLemmas.{next_word, all_words}
-use Rattle.dp_words.proofs.form.sort_words.Goals as goal
+use Rattle.dp_words.proofs.sorting.sort_words.Goals as goal
 
 pub loop-index-preserved : goal.loop-index-preserved
 loop-index-preserved c =

@@ -2,10 +2,11 @@
 use Rattle.std.proofs.Common.{ap, append-nil, false, sym, take, true, ◌∙◌}
 use Rattle.dp_words.specs.Sorting.{pair}
 use Rattle.dp_words.specs.Words.{options, places}
-use Rattle.dp_words.specs.declared.form.TheConstants.{KEPT_OPTIONS, KEPT_PLACES}
+use Rattle.dp_words.specs.declared.sorting.TheConstants.{KEPT_OPTIONS, KEPT_PLACES}
 use Rattle.dp_words.proofs.WordLemmas.{dashes_after, dashes_at, options_after, options_at}
-use Rattle.dp_words.proofs.WordLemmas.{options_before, places_after, places_at, places_before, pushed}
-use Rattle.dp_words.proofs.form.Sorted.sort.Goals as goal
+use Rattle.dp_words.proofs.WordLemmas.{options_before, places_after, places_at}
+use Rattle.dp_words.proofs.WordLemmas.{places_before, pushed}
+use Rattle.dp_words.proofs.sorting.Sorted.sort.Goals as goal
 
 pub returns-then-self : goal.returns-then-self
 returns-then-self c words has =
