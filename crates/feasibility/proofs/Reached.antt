@@ -51,7 +51,7 @@ lies_divided points g r f a from_1 lies =
         in
         omega (arith, linear, ints)
 
-lie_divided : (pieces : List (List Point)) (fixed : List Point) (g r t : ℤ)
+pub lie_divided : (pieces : List (List Point)) (fixed : List Point) (g r t : ℤ)
     (lowest thrusts : List Thrust) (n : ℕ) →
     pos 1 ≤ℤ g → t ≡ g *ℤ r → thrusts ≡ map (times g) lowest → n ≤ length lowest →
     LieBelow pieces fixed thrusts t n → LieBelow pieces fixed lowest r n
@@ -66,7 +66,7 @@ lie_divided pieces fixed g r t lowest thrusts n from_1 is_t are few each i below
     (subst (λ (q : ℤ). LiesIn piece (without q f (get_or thrusts i no_thrust)) q) is_t
     (each i below)))
 
-total_of_times : (g : ℤ) (levers : List Point) (thrusts : List Thrust) →
+pub total_of_times : (g : ℤ) (levers : List Point) (thrusts : List Thrust) →
     total_of levers (map place_of (map (times g) thrusts)) ≡ scaled_by g
     (total_of levers (map place_of thrusts))
 total_of_times g [] thrusts = nothing g

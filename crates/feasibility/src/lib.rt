@@ -4,8 +4,8 @@
 
 mod analysis;
 mod choosing;
-mod lowest;
-mod mean;
+pub mod lowest;
+pub mod mean;
 mod outside;
 mod step;
 

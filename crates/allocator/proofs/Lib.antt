@@ -1,0 +1,5 @@
+pub mod Resting
+pub mod Duals
+pub mod Shares
+pub mod Farthest
+pub mod Rightness
