@@ -8,7 +8,6 @@ use Rattle.int_ring.proofs.Laws.{linear}
 use Rattle.int_ring.proofs.Order.{cancel_le_left, mul_le_left, mul_le_right, nonneg_of_mul_nonneg}
 use Rattle.int_ring.proofs.Ring.{ring, reads}
 use Rattle.dp_num.specs.Fractions.{SameQuotient}
-use Rattle.plant_model.specs.declared.thrust.Point.{Point}
 use Rattle.thrust_region.specs.Choices.{choice_of, choices_of}
 use Rattle.wrench_geometry.specs.declared.vector.Vec3.{Vec3}
 use Rattle.wrench_geometry.specs.Chosen.{images_of}
@@ -20,7 +19,7 @@ use Rattle.certificate.specs.Outcomes.{IsOneEach, Question, total_of}
 use Rattle.certificate.specs.Sides.{place_of}
 use Rattle.certificate.proofs.Choosing.{length-choice}
 use Rattle.certificate.proofs.Duality.{all_at_most}
-use Rattle.plant_core.specs.Allocations.{CanGive}
+use Rattle.plant_core.specs.Allocations.{IsPart}
 use Rattle.allocator.specs.Reaches.{AreAtRest, IsGreatestIn, denominator_of}
 use Rattle.allocator.proofs.Resting.{total_at_rest}
 
@@ -157,3 +156,26 @@ greatest_in question choice exit top bottom one_each at_rest there exits some sa
 
     from_1_of : (q t : ℤ) → pos 1 ≤ℤ q → pos 1 ≤ℤ int_max q t
     from_1_of q t h = omega (arith, linear, int_max_is)
+
+-- a quotient that is held to 1 is a part
+pub part_to_1 : (t m top bottom : ℤ) → pos 1 ≤ℤ m → pos 0 ≤ℤ bottom → t ≤ℤ m →
+    top *ℤ m ≡ t *ℤ bottom → top ≤ℤ bottom
+part_to_1 t m top bottom from_1 from_0 most same =
+    let grown = mul_le_right t m bottom most from_0 in
+    let e : top *ℤ m ≡ m *ℤ top = ring (top ∷ m ∷ []) (search reads depth 40) refl in
+    cancel_le_left top bottom m (omega (arith, linear)) (omega (arith, linear, grown, same, e))
+
+pub held_to_1 : (exit : ExitWeights) (top bottom : ℤ) → pos 1 ≤ℤ exit.q → pos 0 ≤ℤ top →
+    pos 1 ≤ℤ bottom → SameQuotient top bottom exit.t (denominator_of exit) → IsPart top bottom
+held_to_1 exit top bottom q_from_1 from_0 bottom_from_1 same = record {
+  from_0 = from_0;
+  to_1 = part_to_1 exit.t (denominator_of exit) top bottom (some exit.q exit.t q_from_1)
+      (omega (arith, linear, bottom_from_1)) (most exit.q exit.t) same;
+  bottom_from_1 = bottom_from_1;
+}
+  where
+    some : (q t : ℤ) → pos 1 ≤ℤ q → pos 1 ≤ℤ int_max q t
+    some q t h = omega (arith, linear, int_max_is)
+
+    most : (q t : ℤ) → t ≤ℤ int_max q t
+    most q t = omega (arith, linear, int_max_is)

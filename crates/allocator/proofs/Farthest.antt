@@ -3,7 +3,7 @@ use Rattle.std.proofs.Common.{◌≡◌, inl, inr, ℕ, ◌+◌, ◌<◌, ◌≤
 use Rattle.std.proofs.Common.{[], ◌∷◌, ◌∙◌, refl, subst, below_more, arith}
 use Rattle.int_ring.proofs.Laws.{linear}
 use Rattle.int_ring.proofs.Ring.{ring, reads}
-use Rattle.int_ring.proofs.Order.{fraction_le_lt_trans, fraction_lt_trans, mul_le_right}
+use Rattle.int_ring.proofs.Order.{fraction_le_lt_trans, mul_le_right}
 use Rattle.certificate.specs.Outcomes.{Question}
 use Rattle.plant_core.specs.Allocations.{IsPart}
 use Rattle.allocator.specs.Reaches.{IsFarther, IsFarthest, IsGreatestIn, IsReach}

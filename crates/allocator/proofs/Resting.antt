@@ -1,5 +1,5 @@
 -- Plants of which no thrust is fixed.
-use Rattle.std.proofs.Common.{◌≡◌, ◌∙◌, ℕ, suc, ◌+◌, ◌≤◌, ℤ, pos, ◌+ℤ◌, ◌-ℤ◌, ◌*ℤ◌, List, [], ◌∷◌}
+use Rattle.std.proofs.Common.{◌≡◌, ◌∙◌, ℕ, zero, suc, ◌+◌, ◌++◌, ◌≤◌, ℤ, pos, ◌+ℤ◌, ◌-ℤ◌, ◌*ℤ◌, List, [], ◌∷◌}
 use Rattle.std.proofs.Common.{length, map, refl, sym, ap, ap₂, arith}
 use Rattle.std.proofs.lemmas.Int.{ints}
 use Rattle.std.proofs.lemmas.List.{length-map}
@@ -16,6 +16,7 @@ use Rattle.plant_model.specs.declared.thrust.Point.{Point}
 use Rattle.plant_model.specs.declared.thrust.Thrust.{Thrust}
 use Rattle.redundancy_groups.specs.Surviving.{fixed_at, fixed_of}
 use Rattle.thrust_region.specs.Choices.{choice_of, choices_of}
+use Rattle.wrench_geometry.specs.Chosen.{levers_of}
 use Rattle.wrench_geometry.specs.Vectors.{scaled_by, sum_of, zero_vector}
 use Rattle.wrench_geometry.specs.Wrenches.{image_of}
 use Rattle.wrench_geometry.proofs.Bounds.{same_vector}
@@ -115,3 +116,35 @@ nothing_gives question one_each rest some top bottom none =
     nothing = same_vector (ring (bottom ∷ []) (search reads depth 40) refl)
         (ring (bottom ∷ []) (search reads depth 40) refl)
         (ring (bottom ∷ []) (search reads depth 40) refl)
+
+-- ---- the zero thrusts, taken in turn
+
+abbrev pub rests : ℕ → List Thrust
+rests zero = []
+rests (suc n) = no_thrust ∷ rests n
+
+pub length-rests : (n : ℕ) → length (rests n) ≡ n
+length-rests zero = refl
+length-rests (suc n) = ap suc (length-rests n)
+
+rests_end : (n : ℕ) → rests n ++ no_thrust ∷ [] ≡ rests (suc n)
+rests_end zero = refl
+rests_end (suc n) = ap (λ (l : List Thrust). no_thrust ∷ l) (rests_end n)
+
+pub rests_more : (n : ℕ) (made more : List Thrust) (a : Thrust) → a ≡ no_thrust →
+    more ≡ made ++ a ∷ [] → made ≡ rests n → more ≡ rests (n + 1)
+rests_more n made more a none is so_far =
+    is ∙ ap₂ (λ (l : List Thrust) (x : Thrust). l ++ x ∷ []) so_far none ∙ rests_end n
+    ∙ ap rests (one_more n)
+  where
+    one_more : (n : ℕ) → suc n ≡ n + 1
+    one_more n = omega arith
+
+rests_each : (thrusters : List Thruster) →
+    rests (length thrusters) ≡ no_thrusts (map (λ (t : Thruster). t.lever) thrusters)
+rests_each [] = refl
+rests_each (t ∷ thrusters) = ap (λ (l : List Thrust). no_thrust ∷ l) (rests_each thrusters)
+
+pub all_rests : (plant : Parts) (n : ℕ) (made : List Thrust) → n ≡ length plant.thrusters.items →
+    made ≡ rests n → made ≡ no_thrusts (levers_of plant)
+all_rests plant n made all so_far = so_far ∙ ap rests all ∙ rests_each plant.thrusters.items

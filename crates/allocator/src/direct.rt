@@ -42,7 +42,11 @@ pub fn allocate(plant: &Plant, status: &Status, demand: Wrench) -> Allocation
     ensures right { IsRight (question_after plant.now status.now Intact demand) result }
     ensures lowest { AreLowest result.q result.thrusts.list.items }
 {
-    allotted(plant, &surviving(plant, status, Loss::Intact), vector_of(demand))
+    allotted(
+        plant,
+        &surviving(plant, status, Loss::Intact),
+        vector_of(demand),
+    )
 }
 
 /// The allocation of a demand to what the regions leave of the plant. There are a region and a
@@ -62,5 +66,9 @@ fn allotted(plant: &Plant, regions: &Regions, demand: Vec3) -> Allocation
     if best.part.top == 0 {
         return idle(plant, best.part);
     }
-    given(&choice(regions, best.choice), regions.fixed.as_slice(), &best)
+    given(
+        &choice(regions, best.choice),
+        regions.fixed.as_slice(),
+        &best,
+    )
 }

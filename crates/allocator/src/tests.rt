@@ -81,7 +81,10 @@ fn is_met(status: &Status, demand: Wrench, allocation: Allocation) -> bool
     requires { IsDemand demand }
 {
     let Allocation {
-        choice, q, thrusts, ..
+        choice,
+        q,
+        thrusts,
+        ..
     } = allocation;
     let outcome = Outcome::Holds { choice, q, thrusts };
     check(&demo(), status, Loss::Intact, demand, &outcome).is_ok()
