@@ -22,8 +22,8 @@ abbrev pub IsGreatestIn : Question → ℕ → ℤ → ℤ → Type 0
 IsGreatestIn question choice top bottom = (more rest : ℤ) → IsPart more rest →
     (top *ℤ rest) <ℤ (more *ℤ bottom) → ¬ CanGive question choice more rest
 
--- that over which the weighted points give the demand, or less of it where the ray leaves the sums
--- before the demand
+-- what the weighted points are thrusts over: the sum of a list's weights, or t where that is greater,
+-- so that they give no more than the demand
 abbrev pub denominator_of : ExitWeights → ℤ
 denominator_of exit = int_max exit.q exit.t
 

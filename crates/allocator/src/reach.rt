@@ -23,6 +23,7 @@ pub struct Reach {
     pub choice: u32,
     /// From 0 to 1, in lowest terms.
     pub part: Fraction,
+    /// Where the ray of the demand leaves the sums of the choice.
     pub exit: ExitWeights,
 }
 
@@ -67,8 +68,8 @@ fn reach_in(plant: &Plant, regions: &Regions, k: u32, demand: Vec3) -> Reach
     }
 }
 
-/// The part of its demand at which the ray leaves the sums, or all of it where the ray leaves them
-/// later.
+/// The part of the demand at which its ray leaves the sums, or all of the demand where the ray
+/// leaves them later.
 fn part_of(exit: &ExitWeights) -> Fraction
     requires from_0 { pos 0 ≤ℤ exit.now.t }
     requires from_1 { pos 1 ≤ℤ exit.now.q }
@@ -79,8 +80,8 @@ fn part_of(exit: &ExitWeights) -> Fraction
     reduce(exit.t, denominator(exit))
 }
 
-/// Over what the exit's weights are, or `t` where that is greater: over it they give no more than
-/// the demand.
+/// What the weighted points are thrusts over: the sum of a list's weights, or `t` where that is
+/// greater, over which they give the demand itself and no more.
 pub fn denominator(exit: &ExitWeights) -> i64
     ensures { result ≡ denominator_of exit.now }
 {
