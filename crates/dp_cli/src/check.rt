@@ -116,3 +116,6 @@ pub fn check_call<A: Source, O: Sink, E: Sink>(
     tell(&status, err);
     status
 }
+
+#[cfg(test)]
+mod tests;
