@@ -5,6 +5,7 @@ Usage: bench/plants.py. It runs ./dp once to build the program, then measures th
 the user time and the peak memory of a run, and the line that it ends with.
 """
 
+import math
 import pathlib
 import subprocess
 import tempfile
@@ -17,24 +18,45 @@ RUNS = 5
 AXIS = "kp = 200\nki = 10\nkd = 500\nlimit = 1000000000\n"
 
 
-def greatest_plant() -> str:
-    """Twelve thrusters, six of them with rings of two pieces each, so with 64 choices, and sixteen groups."""
+def plant_text(name: str, rings: list[str], groups: list[str]) -> str:
+    """A plant of eight sections and seven open ties, with thrusters of these rings and groups of these members."""
     wind = ", ".join("[0, 0, 0]" for _ in range(36))
-    text = f'format = 2\nname = "GREATEST"\nband = [15, 15, 10000]\nwind = [{wind}]\n'
+    text = f'format = 2\nname = "{name}"\nband = [15, 15, 10000]\nwind = [{wind}]\n'
     text += "".join(f"[controller.{axis}]\n{AXIS}" for axis in ("surge", "sway", "yaw"))
     text += "".join(f'[[section]]\nname = "S{k}"\n' for k in range(8))
     text += "".join(f'[[tie]]\nname = "T{k}"\nends = ["S{k}", "S{k + 1}"]\nclosed = false\n' for k in range(7))
     text += "".join(
         f'[[generator]]\nname = "G{k}"\nsection = "S{k}"\npower = 9000\nrunning = true\n' for k in range(8)
     )
-    for k in range(12):
-        ring = "[[400, 0], [0, 400], [-400, 0], [0, -400]]" if k < 6 else "[[0, 400], [0, -400]]"
+    for k, ring in enumerate(rings):
         text += (
             f'[[thruster]]\nname = "P{k}"\nsection = "S{k % 8}"\nat = [{100 * k - 600}, {50 * k - 300}]\nrated = 4000\n'
             f"thresholds = [25, 50, 75, 100]\nring = {ring}\nselected = true\n"
         )
-    text += "".join(f'[[group]]\nname = "L{k}"\nmembers = ["S{k % 8}", "P{k % 12}"]\n' for k in range(16))
-    return text
+    return text + "".join(f'[[group]]\nname = "L{k}"\nmembers = [{members}]\n' for k, members in enumerate(groups))
+
+
+def greatest_plant() -> str:
+    """Twelve thrusters, six of them with rings of two pieces each, so with 64 choices, and sixteen groups."""
+    round_, line = "[[400, 0], [0, 400], [-400, 0], [0, -400]]", "[[0, 400], [0, -400]]"
+    return plant_text("GREATEST", 6 * [round_] + 6 * [line], [f'"S{k % 8}", "P{k % 12}"' for k in range(16)])
+
+
+def points(count: int, turn: float) -> list[list[int]]:
+    """So many points, an even number, round a circle of the greatest thrust, the first of them at a part of a turn."""
+    angles = [math.tau * (turn + k / count) for k in range(count // 2)]
+    half = [[4 * round(500 * math.cos(angle)), 4 * round(500 * math.sin(angle))] for angle in angles]
+    return half + [[-x, -y] for x, y in half]
+
+
+def greatest_lists() -> str:
+    """Twelve thrusters whose pieces have eight points each, six of them with two pieces, so with 64 choices.
+
+    Sixteen groups are open ties, so that each loss leaves all thrusters and all choices.
+    """
+    two = [str(points(14, k / 168)) for k in range(6)]
+    one = [f"{points(16, k / 192)}\nforbid = [[7, 0]]" for k in range(6)]
+    return plant_text("LISTS", two + one, [f'"T{k % 7}"' for k in range(16)])
 
 
 def repeated(piece: str) -> str:
