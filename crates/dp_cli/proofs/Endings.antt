@@ -15,7 +15,8 @@ use Rattle.dp_words.specs.Words.{form_of}
 use Rattle.dp_words.specs.declared.form.Form.{Form}
 use Rattle.dp_words.specs.declared.status.RunStatus.{RunStatus}
 use Rattle.dp_words.specs.declared.status.RunStatus.TheVariants.{Clear, Usage, Plant, WriteFault}
-use Rattle.dp_words.specs.declared.status.RunStatus.TheVariants.{NoMemory, ReadFault, StreamTooLong}
+use Rattle.dp_words.specs.declared.status.RunStatus.TheVariants.{LossFound, NoMemory, ReadFault}
+use Rattle.dp_words.specs.declared.status.RunStatus.TheVariants.{StreamTooLong}
 use Rattle.dp_cli.specs.Plants.{HasPlant, WordsSay}
 use Rattle.dp_cli.specs.Sessions.{AreFew, AreTooMany, GaveTooManyItems, HasCause, HasHistory}
 use Rattle.dp_cli.specs.Sessions.{IsComplete, MayEnd, TellsFew, WritesPart}
@@ -70,6 +71,12 @@ not-plant Fault fault e = cc
 not-plant Long fault e = cc
 not-plant Full fault e = cc
 
+not-lost : (ending : Ending) → status_of ending ≡ LossFound → ⊥
+not-lost End e = cc
+not-lost Fault e = cc
+not-lost Long e = cc
+not-lost Full e = cc
+
 -- all was written
 pub history-ended : (words : List (List ℕ)) (status : RunStatus) (ending : Ending) (plant : Parts)
     (first source out : Shown) → WordsSay words first (Ok plant) → status ≡ status_of ending
@@ -101,6 +108,9 @@ stopped-usage status kind error e = elim error [ inl fault ↦ cc | inr memory �
 stopped-plant : (status : RunStatus) (plant : PlantFault) → IsWriteError status
     → status ≡ Plant plant → ⊥
 stopped-plant status plant error e = elim error [ inl fault ↦ cc | inr memory ↦ cc ]
+
+stopped-lost : (status : RunStatus) → IsWriteError status → status ≡ LossFound → ⊥
+stopped-lost status error e = elim error [ inl fault ↦ cc | inr memory ↦ cc ]
 
 -- writing was stopped
 pub history-stopped : (words : List (List ℕ)) (status : RunStatus) (plant : Parts)
@@ -267,6 +277,7 @@ cause-ended words form status ending plant first source out is_form says is whol
   journal_full = λ e. full (status_of-injective ending Full (sym is ∙ e));
   clear = λ e. cause-clear ending source whole.stands.bytes whole.history (sym is ∙ e)
       whole.stands.ends;
+  no_loss = λ e. not-lost ending (sym is ∙ e);
 }
 
 -- when a session was stopped in writing
@@ -281,6 +292,7 @@ cause-stopped words form status plant first source out is_form says error failed
   too_long = λ e. absurd (stopped-whole status Long error e);
   journal_full = λ e. absurd (stopped-whole status Full error e);
   clear = λ e. absurd (stopped-whole status End error e);
+  no_loss = λ e. stopped-lost status error e;
 }
 
 -- when there is no plant
@@ -294,6 +306,7 @@ cause-no_plant words form status word first source out is_form named error = rec
   too_long = λ e. absurd (subst (IsPlantError word first) e error);
   journal_full = λ e. absurd (subst (IsPlantError word first) e error);
   clear = λ e. absurd (subst (IsPlantError word first) e error);
+  no_loss = λ e. subst (IsPlantError word first) e error;
 }
 
 -- when the words are faulty
@@ -306,6 +319,7 @@ cause-usage words kind first source out is = record {
   too_long = λ e. absurd (cc);
   journal_full = λ e. absurd (cc);
   clear = λ e. absurd (cc);
+  no_loss = λ e. cc;
 }
 
 -- faulty words name no plant

@@ -188,6 +188,8 @@ pub record HasCause (words : List (List ℕ)) (status : RunStatus) (first source
   pub too_long : status ≡ statuses.StreamTooLong → GaveTooMany source
   pub journal_full : status ≡ statuses.JournalFull → GaveTooManyItems source
   pub clear : status ≡ statuses.Clear → IsEmptied source
+  -- no loss is analysed
+  pub no_loss : status ≢ statuses.LossFound
 
 -- A plant, a source that has at most as many bytes as a stream may have and items as a history has
 -- room for, and counts of faults that don't rise give Clear, unless memory runs out.
