@@ -2,7 +2,7 @@
 """Times the proved program on recorded streams: switching telegrams, positions, and one long line.
 
 Usage: bench/streams.py. It runs ./dp once to build the program, then measures the program itself: the user time of a
-run and of an entry, the bytes of a long line that it reads in a second, and the peak memory.
+run and of a telegram, the bytes of a long line that it reads in a second, and the peak memory.
 """
 
 import fcntl
@@ -30,16 +30,16 @@ def frame(body: str) -> bytes:
     return f"${body}*{checksum:02X}\n".encode()
 
 
-def switching(entries: int) -> bytes:
+def switching(count: int) -> bytes:
     """That many telegrams, which close and open the demo plant's tie in turn."""
     close, open_ = frame("TIE,T1,CLOSE"), frame("TIE,T1,OPEN")
-    return b"".join(open_ if place % 2 else close for place in range(entries))
+    return b"".join(open_ if place % 2 else close for place in range(count))
 
 
-def positions(entries: int) -> bytes:
+def positions(count: int) -> bytes:
     """That many positions, a second apart, at which the vessel moves about the set point."""
     return b"".join(
-        frame(f"POS,{1000 * k},{37 * k % 101 - 50},{53 * k % 89 - 44},0") for k in range(1, entries + 1)
+        frame(f"POS,{1000 * k},{37 * k % 101 - 50},{53 * k % 89 - 44},0") for k in range(1, count + 1)
     )
 
 
@@ -74,13 +74,13 @@ def peak_kibibytes(telegrams: bytes) -> int:
         return int(re.search(r"VmHWM:\s*(\d+) kB", status)[1])
 
 
-def time_entries(name: str, stream: Callable[[int], bytes], path: pathlib.Path) -> None:
-    for entries in (1_000, 10_000, MOST_ENTRIES):
-        path.write_bytes(stream(entries))
+def time_telegrams(name: str, stream: Callable[[int], bytes], path: pathlib.Path) -> None:
+    for count in (1_000, 10_000, MOST_ENTRIES):
+        path.write_bytes(stream(count))
         seconds = user_seconds(path)
         print(
-            f"{name}: {entries} entries, {path.stat().st_size} bytes: {1e3 * seconds:.1f} ms user, "
-            f"{1e6 * seconds / entries:.2f} us an entry"
+            f"{name}: {count} telegrams, {path.stat().st_size} bytes: {1e3 * seconds:.1f} ms user, "
+            f"{1e6 * seconds / count:.2f} us a telegram"
         )
     print(f"{name}: peak memory {peak_kibibytes(stream(MOST_ENTRIES)) / 1024:.1f} MiB")
 
@@ -91,8 +91,8 @@ def main() -> None:
     )
     with tempfile.TemporaryDirectory() as folder:
         path = pathlib.Path(folder) / "telegrams"
-        time_entries("switching", switching, path)
-        time_entries("positions", positions, path)
+        time_telegrams("switching", switching, path)
+        time_telegrams("positions", positions, path)
         path.write_bytes(b"A" * (MOST_STREAM_BYTES - 1) + b"\n")
         seconds = user_seconds(path)
         print(f"one long line: {MOST_STREAM_BYTES} bytes in {1e3 * seconds:.1f} ms user, {16 / seconds:.0f} MiB a second")

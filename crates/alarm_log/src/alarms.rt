@@ -96,7 +96,8 @@ impl Alarms {
         true
     }
 
-    fn is_unacknowledged(&self, number: u32) -> bool
+    /// Whether an alarm in the ring has the number and is unacknowledged.
+    pub fn is_unacknowledged(&self, number: u32) -> bool
         ensures { result ≡ is_unacknowledged_in number self.now }
     {
         self.ring

@@ -12,6 +12,8 @@ use plant_model::status::{Loss, Status};
 use plant_model::thrust::Thrust;
 use plant_model::wrench::Wrench;
 
+mod machine;
+
 /// All thrusters of the demo plant are selected, its generators run, and its tie is open.
 const ALL: Status = Status {
     selected: [

@@ -1,120 +1,35 @@
--- Histories that answer items, one entry each: how much they count, and one more item.
-use Rattle.std.proofs.Common.{◌≡◌, ◌≢◌, ℕ, ◌+◌, ◌<◌, ◌≤◌, List, [], ◌∷◌, ◌++◌, length, take, drop}
-use Rattle.std.proofs.Common.{get_or}
-use Rattle.std.proofs.Common.{Bool, cond, true, false, not, Option, Result, Ok, Err, refl, sym, ◌∙◌}
-use Rattle.std.proofs.Common.{ap, subst}
-use Rattle.std.proofs.Common.{append_assoc, arith, suc}
-use Rattle.std.specs.Prelude.{map}
-use Rattle.std.specs.List.{filter, fold}
+-- An item that is asked of an open core, and what it is answered.
+use Rattle.std.proofs.Common.{◌≡◌, ◌≢◌, ℕ, ◌≤◌, List, [], ◌∷◌, ◌++◌, Bool, cond, true, false}
+use Rattle.std.proofs.Common.{refl, sym, ◌∙◌, ap, subst, arith, ◌==◌, append_assoc, length, ◌-◌}
+use Rattle.std.proofs.Common.{None, Some}
+use Rattle.std.specs.List.{slice_get}
+use Rattle.std.proofs.lemmas.List.{length-append}
 use Rattle.std.proofs.lemmas.Bool.Decides.{nat_tests}
-use Rattle.std.proofs.lemmas.List.{map-append, take_more, take-append-drop}
-use Rattle.frame.specs.Frames.{StandsFor, items, items_end}
 use Rattle.frame.specs.declared.item.Item.{Item}
-use Rattle.frame.specs.declared.item.Item.TheVariants.{Body, Damaged}
 use Rattle.plant_model.specs.declared.plant.Parts.{Parts}
-use Rattle.telegram.specs.Telegrams.{telegram}
-use Rattle.telegram.specs.declared.telegram.Telegram.{Telegram as TelegramKind}
-use Rattle.telegram.specs.declared.telegram.Reject.{Reject}
-use Rattle.plant_core.specs.Machine.{CoreView, IsAllowed, IsAllowedWhere, after_call, after_reply}
-use Rattle.plant_core.specs.Machine.{is_answer, is_event, is_full, next, opening, state_after}
+use Rattle.plant_core.specs.Machine.{CoreView, IsAllowed, IsAllowedWhere, Stand, after_call}
+use Rattle.plant_core.specs.Machine.{after_reply, is_answer, is_event, is_full, next, stand_of}
 use Rattle.plant_core.specs.Machine.{state_of}
 use Rattle.plant_core.specs.declared.call.Call.{Call}
-use Rattle.plant_core.specs.declared.call.Entry.{Entry}
 use Rattle.plant_core.specs.declared.call.Call.TheVariants as calls
+use Rattle.plant_core.specs.declared.call.Entry.{Entry}
 use Rattle.plant_core.specs.declared.call.Reply.{Reply}
 use Rattle.plant_core.specs.declared.call.Reply.TheVariants.{JournalFull}
-use Rattle.plant_core.proofs.Replies.{answer-reply}
 use Rattle.plant_core.specs.declared.state.State.{State}
-use Rattle.dp_cli.specs.Sessions.{Asked, AnswersItems, asked, asked_by, asked_for}
-use Rattle.dp_cli.specs.Sessions.{events_in}
-use Rattle.dp_cli.specs.Steps.{IsFilled, TakesBytes, TakesItem}
+use Rattle.plant_core.proofs.Histories.{stand_after-push}
+use Rattle.plant_core.proofs.Replies.{answer-reply}
+use Rattle.dp_cli.specs.Sessions.{AreCurrent, AreVerdictsOn, Asked, IsFollowedWhere, asked}
+use Rattle.dp_cli.specs.Sessions.{asked_for}
+use Rattle.dp_cli.specs.Steps.{AddsBlock, AddsVerdicts, IsRunning, NoneIsShown, TakesItem}
+use Rattle.dp_cli.specs.Writing.{WritesFrames}
+use Rattle.dp_cli.specs.declared.session.Ending.TheVariants.{Write}
+use Rattle.dp_words.specs.Shown.{Shown}
+use Rattle.log_text.specs.Commands.{command_text}
+use Rattle.dp_cli.proofs.Blocks.{event-asked}
 use Rattle.dp_cli.proofs.Counted.{keeps-telegram}
-use Rattle.dp_cli.proofs.Fronts.{front-items}
+use Rattle.dp_cli.proofs.Rounds.{current_after, none_shown_after}
 
--- an entry of this call counts once more, and ends nothing
-pub record Counts (plant : Parts) (state : State) (call : Call) : Type 0 where
-  pub events : (after_call plant state call).events ≡ state.events + 1
-  pub is_closed : (after_call plant state call).is_closed ≡ state.is_closed
-
-counts-by : (plant : Parts) (state : State) (read : Result TelegramKind Reject)
-    → Counts plant state (asked_by read).1
-counts-by plant state (Ok telegram) =
-    let keeps = keeps-telegram plant state telegram in
-    record { events = omega (arith, keeps.events); is_closed = keeps.is_closed }
-counts-by plant state (Err reject) = record { events = refl; is_closed = refl }
-
-counts-item : (plant : Parts) (state : State) (item : Item) → Counts plant state (asked_for item).1
-counts-item plant state (Body body) = counts-by plant state (telegram body)
-counts-item plant state (Damaged damage) = record { events = refl; is_closed = refl }
-
--- as many telegrams and notes are counted as items were answered, and nothing is closed
-pub record CountsAll (state after : State) (count : ℕ) : Type 0 where
-  pub events : after.events ≡ state.events + count
-  pub is_closed : after.is_closed ≡ state.is_closed
-
-counts-call : (plant : Parts) (state : State) (entry : Entry) (item : Item)
-    → asked entry ≡ asked_for item → Counts plant state entry.call
-counts-call plant state entry item e =
-    let same : entry.call ≡ (asked_for item).1 = ap (λ (a : Asked). a.1) e in
-    rw same (counts-item plant state item)
-
-pub counts-from : (plant : Parts) (state : State) (history : List Entry) (answered : List Item)
-    → AnswersItems history answered
-    → CountsAll state (fold (next plant) state history) (length answered)
-counts-from plant state [] [] e = record { events = omega arith; is_closed = refl }
-counts-from plant state [] (item ∷ answered) e = cc
-counts-from plant state (entry ∷ history) [] e = cc
-counts-from plant state (entry ∷ history) (item ∷ answered) e =
-    let head : asked entry ≡ asked_for item = cc in
-    let tail : map asked history ≡ map asked_for answered = cc in
-    let one = counts-call plant state entry item head in
-    let more = counts-from plant (next plant state entry) history answered tail in
-    record {
-      events = omega (arith, one.events, more.events);
-      is_closed = more.is_closed
-          ∙ one.is_closed;
-    }
-
--- the state after a history that answers the items
-pub counts : (plant : Parts) (history : List Entry) (answered : List Item)
-    → AnswersItems history answered
-    → CountsAll (opening plant) (state_after plant history) (length answered)
-counts plant history answered e = counts-from plant (opening plant) history answered e
-
--- what an item asks for is a telegram or a note
-event-by : (read : Result TelegramKind Reject) → is_event (asked_by read).1 ≡ true
-event-by (Ok telegram) = refl
-event-by (Err reject) = refl
-
-event-item : (item : Item) → is_event (asked_for item).1 ≡ true
-event-item (Body body) = event-by (telegram body)
-event-item (Damaged damage) = refl
-
--- the history has as many telegrams and notes as it answers items
-pub events-answered : (history : List Entry) (answered : List Item)
-    → AnswersItems history answered → events_in history ≡ length answered
-events-answered [] [] e = refl
-events-answered [] (item ∷ answered) e = cc
-events-answered (entry ∷ history) [] e = cc
-events-answered (entry ∷ history) (item ∷ answered) e =
-    let head : asked entry ≡ asked_for item = cc in
-    let tail : map asked history ≡ map asked_for answered = cc in
-    let event : is_event entry.call ≡ true =
-    ap (λ (a : Asked). is_event a.1) head ∙ event-item item in
-    let kept = filter (λ (e : Entry). is_event e.call) history in
-    ap (λ b. length (cond b (entry ∷ kept) kept)) event
-    ∙ ap (λ n. suc n) (events-answered history answered tail)
-
--- ---- one item more
-
-pub answers-more : (history : List Entry) (answered : List Item) (entry : Entry) (item : Item)
-    → AnswersItems history answered → asked entry ≡ asked_for item
-    → AnswersItems (history ++ entry ∷ []) (answered ++ item ∷ [])
-answers-more history answered entry item so_far is =
-    map-append asked history (entry ∷ [])
-    ∙ ap (λ (front : List Asked). front ++ asked entry ∷ []) so_far
-    ∙ ap (λ (last : Asked). map asked_for answered ++ last ∷ []) is
-    ∙ sym (map-append asked_for answered (item ∷ []))
+-- ---- replies
 
 -- the history with an entry that is an answer
 after-answer : (core new : CoreView) (entry : Entry) → is_answer entry.reply ≡ true
@@ -135,137 +50,240 @@ pub record IsOpenReply (limit : ℕ) (state : State) (reply : Reply) : Type 0 wh
 
 full-where : (limit : ℕ) (state : State) (call : Call) → is_full limit state call ≡ true
     → limit ≤ state.events
-full-where limit state (calls.Telegram t) full = grind (arith, nat_tests)
-full-where limit state (calls.Note n) full = grind (arith, nat_tests)
+full-where limit state (calls.Telegram telegram) full = grind (arith, nat_tests)
+full-where limit state (calls.Note note) full = grind (arith, nat_tests)
+full-where limit state (calls.Publish version group outcome) full = cc
 full-where limit state calls.Close full = cc
 
-open-reply-where : (full : Bool) (plant : Parts) (limit : ℕ) (state : State) (call : Call)
-    (reply : Reply) → (full ≡ true → limit ≤ state.events)
-    → IsAllowedWhere false full plant state call reply → IsOpenReply limit state reply
-open-reply-where true plant limit state call reply filled is = record {
+open-reply-where : (full : Bool) (plant : Parts) (limit : ℕ) (stand : Stand) (call : Call)
+    (reply : Reply) → (full ≡ true → limit ≤ stand.state.events)
+    → IsAllowedWhere false full plant stand call reply → IsOpenReply limit stand.state reply
+open-reply-where true plant limit stand call reply filled is = record {
   answer = λ other. absurd (other is);
   full = λ e. filled refl;
 }
-open-reply-where false plant limit state call reply filled is =
-    let answer = answer-reply plant state call reply is in
+open-reply-where false plant limit stand call reply filled is =
+    let answer = answer-reply plant stand call reply is in
     record { answer = λ other. answer; full = λ e. cc (ap is_answer (sym e) ∙ answer) }
 
-pub open-reply : (plant : Parts) (limit : ℕ) (state : State) (call : Call) (reply : Reply)
-    → state.is_closed ≡ false → IsAllowed plant limit state call reply
-    → IsOpenReply limit state reply
-open-reply plant limit state call reply is_open allowed =
-    open-reply-where (is_full limit state call) plant limit state call reply
-    (full-where limit state call)
-    (subst (λ (b : Bool). IsAllowedWhere b (is_full limit state call) plant state call reply)
+open-reply : (plant : Parts) (limit : ℕ) (stand : Stand) (call : Call) (reply : Reply)
+    → stand.state.is_closed ≡ false → IsAllowed plant limit stand call reply
+    → IsOpenReply limit stand.state reply
+open-reply plant limit stand call reply is_open allowed =
+    open-reply-where (is_full limit stand.state call) plant limit stand call reply
+    (full-where limit stand.state call)
+    (subst (λ (b : Bool). IsAllowedWhere b (is_full limit stand.state call) plant stand call reply)
     is_open allowed)
 
 -- an item was asked for, and what was answered is known
 pub record IsAsked (old new : CoreView) (item : Item) (asks : Asked) (reply : Reply) : Type 0 where
-  pub answered : List Item
-  pub so_far : AnswersItems old.history answered
+  pub running : IsRunning old
   pub asks_is : asks ≡ asked_for item
-  pub allowed : IsAllowed old.plant old.limit (state_of old) asks.1 reply
-  pub history : new ≡ after_reply old
-      (record { caller = asks.0; call = asks.1; reply = reply })
+  pub allowed : IsAllowed old.plant old.limit (stand_of old) asks.1 reply
+  pub history : new ≡ after_reply old (record { caller = asks.0; call = asks.1; reply = reply })
 
 open-asked : (old new : CoreView) (item : Item) (asks : Asked) (reply : Reply)
     → IsAsked old new item asks reply → IsOpenReply old.limit (state_of old) reply
-open-asked old new item asks reply is =
-    open-reply old.plant old.limit (state_of old) asks.1 reply
-    (counts old.plant old.history is.answered is.so_far).is_closed is.allowed
+open-asked old new item asks reply is = open-reply old.plant old.limit (stand_of old) asks.1 reply
+    is.running.is_open is.allowed
 
-pub takes-item : (old new : CoreView) (item : Item) (asks : Asked) (reply : Reply)
-    → IsAsked old new item asks reply → reply ≢ JournalFull → TakesItem true old new item
-takes-item old new item asks reply is other =
+-- a history that has no room for the item stays as it is
+pub record IsRefused (old new : CoreView) : Type 0 where
+  pub unchanged : new ≡ old
+  pub limit : old.limit ≤ (state_of old).events
+
+pub refused : (old new : CoreView) (item : Item) (asks : Asked) (reply : Reply)
+    → IsAsked old new item asks reply → reply ≡ JournalFull → IsRefused old new
+refused old new item asks reply is full =
     let entry : Entry = record { caller = asks.0; call = asks.1; reply = reply } in
-    let grown = after-answer old new entry ((open-asked old new item asks reply is).answer other)
-    is.history in
-    λ answered so_far. subst (λ (m : CoreView). AnswersItems m.history (answered ++ item ∷ []))
-    (sym grown) (answers-more old.history answered entry item so_far is.asks_is)
-
-pub takes-none : (old new : CoreView) (item : Item) (asks : Asked) (reply : Reply)
-    → IsAsked old new item asks reply → reply ≡ JournalFull → TakesItem false old new item
-takes-none old new item asks reply is full =
-    let entry : Entry = record { caller = asks.0; call = asks.1; reply = reply } in
-    let filled = (open-asked old new item asks reply is).full full in (
-      after-none old new entry (ap is_answer full) is.history,
-      λ answered so_far. let all = counts old.plant old.history answered so_far in
-          omega (arith, all.events, filled),
-    )
-
--- the same plant and limit
-pub record IsSame (old new : CoreView) : Type 0 where
-  pub plant : new.plant ≡ old.plant
-  pub limit : new.limit ≡ old.limit
-
-kept-where : (b : Bool) (old grown : CoreView) → grown.plant ≡ old.plant
-    → grown.limit ≡ old.limit → IsSame old (cond b grown old)
-kept-where true old grown plant limit = record { plant = plant; limit = limit }
-kept-where false old grown plant limit = record { plant = refl; limit = refl }
-
--- a call leaves the plant and the limit as they were
-pub kept : (old new : CoreView) (entry : Entry) → new ≡ after_reply old entry → IsSame old new
-kept old new entry is =
-    let grown : CoreView = record old { history = old.history ++ entry ∷ [] } in
-    subst (λ (m : CoreView). IsSame old m) (sym is)
-    (kept-where (is_answer entry.reply) old grown refl refl)
-
--- the bytes fed and one more of a piece
-pub fed-more : (fed bytes : List ℕ) (i : ℕ) → i < length bytes
-    → fed ++ take (i + 1) bytes ≡ (fed ++ take i bytes) ++ get_or bytes i 0 ∷ []
-fed-more fed bytes i h =
-    ap (λ (t : List ℕ). fed ++ t) (take_more bytes i 0 h)
-    ∙ sym (append_assoc fed (take i bytes) (get_or bytes i 0 ∷ []))
-
--- a byte more was fed, and what it gave was answered
-pub answered-more : (framer : Option (List ℕ)) (core : CoreView) (fed bytes : List ℕ) (i : ℕ)
-    (given : List Item) → i < length bytes
-    → StandsFor framer ((fed ++ take i bytes) ++ get_or bytes i 0 ∷ [])
-    → items ((fed ++ take i bytes) ++ get_or bytes i 0 ∷ []) ≡ items (fed ++ take i bytes) ++ given
-    → AnswersItems core.history (items (fed ++ take i bytes) ++ given)
-    → TakesBytes true core framer (fed ++ take (i + 1) bytes)
-answered-more framer core fed bytes i given h stands gave answers =
-    let more : fed ++ take (i + 1) bytes ≡ (fed ++ take i bytes) ++ get_or bytes i 0 ∷ [] =
-    fed-more fed bytes i h in
-    let shown : items (fed ++ take (i + 1) bytes) ≡ items (fed ++ take i bytes) ++ given =
-    ap items more ∙ gave in (
-      subst (λ (t : List ℕ). StandsFor framer t) (sym more) stands,
-      subst (λ (xs : List Item). AnswersItems core.history xs) (sym shown) answers,
-    )
-
--- a byte more gave an item that the history had no room for
-pub filled-byte : (old new : CoreView) (fed bytes : List ℕ) (i : ℕ) (item : Item)
-    → i < length bytes → AnswersItems old.history (items (fed ++ take i bytes))
-    → items ((fed ++ take i bytes) ++ get_or bytes i 0 ∷ [])
-    ≡ items (fed ++ take i bytes) ++ item ∷ []
-    → TakesItem false old new item → IsFilled new (items (fed ++ bytes))
-filled-byte old new fed bytes i item h answers gave full =
-    let front : List ℕ = fed ++ take i bytes in
-    let split : fed ++ bytes ≡ (front ++ get_or bytes i 0 ∷ []) ++ drop (i + 1) bytes =
-    ap (λ (t : List ℕ). fed ++ t) (sym (take-append-drop (i + 1) bytes))
-    ∙ sym (append_assoc fed (take (i + 1) bytes) (drop (i + 1) bytes))
-    ∙ ap (λ (t : List ℕ). t ++ drop (i + 1) bytes) (fed-more fed bytes i h) in
     record {
-      answered = items front;
-      answers = subst (λ (m : CoreView). AnswersItems m.history (items front)) (sym full.0) answers;
-      limit = subst (λ (m : CoreView). m.limit ≤ length (items front)) (sym full.0)
-          (full.1 (items front) answers);
-      front = front-items (items front) (front ++ get_or bytes i 0 ∷ []) (drop (i + 1) bytes)
-          (fed ++ bytes) split (item, [], gave);
+      unchanged = after-none old new entry (ap is_answer full) is.history;
+      limit = (open-asked old new item asks reply is).full full;
     }
 
--- the damage of the stream's end had no room
-pub filled-end : (old new : CoreView) (fed : List ℕ) (item : Item)
-    → AnswersItems old.history (items fed) → items_end fed ≡ items fed ++ item ∷ []
-    → TakesItem false old new item → IsFilled new (items_end fed)
-filled-end old new fed item answers gave full = record {
-  answered = items fed;
-  answers = subst (λ (m : CoreView). AnswersItems m.history (items fed)) (sym full.0) answers;
-  limit = subst (λ (m : CoreView). m.limit ≤ length (items fed)) (sym full.0)
-      (full.1 (items fed) answers);
-  front = (item, [], gave);
-}
+-- the item's entry is the last one
+pub record IsAnswered (old new : CoreView) (item : Item) (entry : Entry) : Type 0 where
+  pub running : IsRunning old
+  pub history : new ≡ record old { history = old.history ++ entry ∷ [] }
+  pub asked : asked entry ≡ asked_for item
 
-pub false_from_not : (b : Bool) → not b ≡ true → b ≡ false
-false_from_not true denied = cc
-false_from_not false denied = refl
+pub answered : (old new : CoreView) (item : Item) (asks : Asked) (reply : Reply)
+    → IsAsked old new item asks reply → reply ≢ JournalFull
+    → IsAnswered old new item (record { caller = asks.0; call = asks.1; reply = reply })
+answered old new item asks reply is other =
+    let entry : Entry = record { caller = asks.0; call = asks.1; reply = reply } in
+    record {
+      running = is.running;
+      history = after-answer old new entry
+          ((open-asked old new item asks reply is).answer other) is.history;
+      asked = is.asks_is;
+    }
+
+-- ---- what the entry of an item leaves
+
+-- a session is as open, and the same verdicts are shown
+pub record Stays (before after : State) : Type 0 where
+  pub is_closed : after.is_closed ≡ before.is_closed
+  pub shown : after.shown ≡ before.shown
+
+stays-event : (plant : Parts) (state : State) (call : Call) (reply : Reply)
+    → is_event call ≡ true → Stays state (after_call plant state call reply)
+stays-event plant state (calls.Telegram telegram) reply is =
+    let keeps = keeps-telegram plant state telegram in
+    record { is_closed = keeps.is_closed; shown = keeps.shown }
+stays-event plant state (calls.Note note) reply is = record { is_closed = refl; shown = refl }
+stays-event plant state (calls.Publish version group outcome) reply is = absurd (cc)
+stays-event plant state calls.Close reply is = absurd (cc)
+
+-- how the core stands with the item's entry
+pub stands-answered : (old new : CoreView) (item : Item) (entry : Entry)
+    → IsAnswered old new item entry → stand_of new ≡ next old.plant (stand_of old) entry
+stands-answered old new item entry is =
+    ap stand_of is.history ∙ stand_after-push old.plant old.history entry
+
+stays-answered : (old new : CoreView) (item : Item) (entry : Entry)
+    → IsAnswered old new item entry → Stays (state_of old) (state_of new)
+stays-answered old new item entry is =
+    subst (λ (s : Stand). Stays (state_of old) s.state)
+    (sym (stands-answered old new item entry is))
+    (stays-event old.plant (state_of old) entry.call entry.reply
+    (event-asked entry item is.asked))
+
+pub open-answered : (old new : CoreView) (item : Item) (entry : Entry)
+    → IsAnswered old new item entry → (state_of new).is_closed ≡ false
+open-answered old new item entry is =
+    (stays-answered old new item entry is).is_closed ∙ is.running.is_open
+
+pub plant-answered : (old new : CoreView) (item : Item) (entry : Entry)
+    → IsAnswered old new item entry → new.plant ≡ old.plant
+plant-answered old new item entry is = ap (λ (m : CoreView). m.plant) is.history
+
+-- where it made a version, no cell of the board is current
+pub unshown-answered : (old new : CoreView) (item : Item) (entry : Entry)
+    → IsAnswered old new item entry
+    → (state_of new).latest.number ≢ (state_of old).latest.number
+    → NoneIsShown new.plant (state_of new)
+unshown-answered old new item entry is moved =
+    subst (λ (p : Parts). NoneIsShown p (state_of new))
+    (sym (plant-answered old new item entry is))
+    (none_shown_after old.plant (state_of old) (state_of new)
+    (stays-answered old new item entry is).shown moved is.running.current)
+
+-- ---- blocks
+
+equal-numbers : (a b : ℕ) → a ≡ b → (a == b) ≡ true
+equal-numbers a b is = grind (arith, nat_tests)
+
+other-numbers : (a b : ℕ) → a ≢ b → (a == b) ≡ false
+other-numbers a b is = grind (arith, nat_tests)
+
+-- where the item's entry made no version, it is a block by itself
+pub adds-entry : (old new : CoreView) (item : Item) (entry : Entry)
+    → IsAnswered old new item entry
+    → (state_of new).latest.number ≡ (state_of old).latest.number
+    → AddsBlock old new item (record { entry = entry; verdicts = [] })
+adds-entry old new item entry is stays =
+    let latest = (next old.plant (stand_of old) entry).state.latest.number in
+    let same : (state_of old).latest.number ≡ latest = sym stays
+    ∙ ap (λ (s : Stand). s.state.latest.number) (stands-answered old new item entry is) in
+    record {
+      history = is.history;
+      asked = is.asked;
+      followed = subst (λ (b : Bool). IsFollowedWhere b old.plant latest [])
+          (sym (equal-numbers (state_of old).latest.number latest same)) refl;
+      running = record {
+        is_open = open-answered old new item entry is;
+        current = subst (λ (p : Parts). AreCurrent p (state_of new))
+            (sym (plant-answered old new item entry is))
+            (current_after old.plant (state_of old) (state_of new)
+            (stays-answered old new item entry is).shown stays is.running.current);
+      };
+    }
+
+-- and else the verdicts of the version follow it
+pub adds-verdicts : (old new later : CoreView) (item : Item) (entry : Entry)
+    → IsAnswered old new item entry
+    → (state_of new).latest.number ≢ (state_of old).latest.number
+    → (adds : AddsVerdicts new later)
+    → AddsBlock old later item (record { entry = entry; verdicts = adds.verdicts })
+adds-verdicts old new later item entry is moved adds =
+    let latest = (next old.plant (stand_of old) entry).state.latest.number in
+    let reached : (state_of new).latest.number ≡ latest =
+    ap (λ (s : Stand). s.state.latest.number) (stands-answered old new item entry is) in
+    let other : (state_of old).latest.number ≢ latest = λ e. moved (reached ∙ sym e) in
+    let verdicts = adds.verdicts in
+    let are : AreVerdictsOn old.plant latest verdicts =
+    subst (λ (n : ℕ). AreVerdictsOn old.plant n verdicts) reached
+    (subst (λ (p : Parts). AreVerdictsOn p (state_of new).latest.number verdicts)
+    (plant-answered old new item entry is) adds.are) in
+    record {
+      history = adds.history
+          ∙ ap (λ (m : CoreView). record m { history = m.history ++ verdicts }) is.history
+          ∙ ap (λ (h : List Entry). record old { history = h })
+          (append_assoc old.history (entry ∷ []) verdicts);
+      asked = is.asked;
+      followed = subst (λ (b : Bool). IsFollowedWhere b old.plant latest verdicts)
+          (sym (other-numbers (state_of old).latest.number latest other)) are;
+      running = adds.running;
+    }
+
+-- the item's entry, and what follows it, were added
+pub record AddsEntry (old new : CoreView) (item : Item) (entry : Entry) : Type 0 where
+  pub verdicts : List Entry
+  pub adds : AddsBlock old new item (record { entry = entry; verdicts = verdicts })
+
+-- the frames of the entry's command
+pub record FramesOf (old : CoreView) (entry : Entry) (is_written : Bool) (out : Shown) : Type 0 where
+  pub plant : Parts
+  pub written : Entry
+  pub plant_is : plant ≡ old.plant
+  pub entry_is : written ≡ entry
+  pub frames : WritesFrames is_written out (command_text plant written)
+
+frames-of : (old : CoreView) (entry : Entry) (is_written : Bool) (out : Shown)
+    → FramesOf old entry is_written out
+    → WritesFrames is_written out (command_text old.plant entry)
+frames-of old entry is_written out of =
+    subst (λ (p : Parts). WritesFrames is_written out (command_text p entry)) of.plant_is
+    (subst (λ (e : Entry). WritesFrames is_written out (command_text of.plant e)) of.entry_is
+    of.frames)
+
+pub takes-written : (old new : CoreView) (item : Item) (entry : Entry) (is_written : Bool)
+    (out : Shown) → AddsEntry old new item entry → FramesOf old entry is_written out
+    → is_written ≡ true → TakesItem None old new item out
+takes-written old new item entry is_written out adds of is = (
+  record { entry = entry; verdicts = adds.verdicts },
+  adds.adds,
+  subst (λ (b : Bool). WritesFrames b out (command_text old.plant entry)) is
+      (frames-of old entry is_written out of),
+)
+
+pub takes-cut : (old new : CoreView) (item : Item) (entry : Entry) (is_written : Bool)
+    (out : Shown) → AddsEntry old new item entry → FramesOf old entry is_written out
+    → is_written ≡ false → TakesItem (Some Write) old new item out
+takes-cut old new item entry is_written out adds of is = (
+  record { entry = entry; verdicts = adds.verdicts },
+  adds.adds,
+  (subst (λ (b : Bool). WritesFrames b out (command_text old.plant entry)) is
+      (frames-of old entry is_written out of)).0,
+)
+
+-- ---- the last entry
+
+slice_get-seam : (front : List Entry) (entry : Entry)
+    → slice_get (front ++ entry ∷ []) (length front) ≡ Some entry
+slice_get-seam [] entry = refl
+slice_get-seam (first ∷ front) entry = slice_get-seam front entry
+
+-- what the history of a core has as its last entry
+pub last-answered : (old new : CoreView) (item : Item) (entry : Entry) (history : List Entry)
+    → IsAnswered old new item entry → history ≡ new.history
+    → slice_get history (length history - 1) ≡ Some entry
+last-answered old new item entry history is seen =
+    let all : history ≡ old.history ++ entry ∷ [] =
+    seen ∙ ap (λ (m : CoreView). m.history) is.history in
+    let place : length history - 1 ≡ length old.history =
+    omega (arith, ap length all, length-append old.history (entry ∷ [])) in
+    ap (λ (h : List Entry). slice_get h (length history - 1)) all
+    ∙ ap (λ (i : ℕ). slice_get (old.history ++ entry ∷ []) i) place
+    ∙ slice_get-seam old.history entry

@@ -1,8 +1,7 @@
 -- What each end of a check says.
-use Rattle.std.proofs.Common.{◌≡◌, ℕ, ◌⊎◌, List, [], ◌∷◌, Bool, true, false, Option, Some, None, Ok}
-use Rattle.std.proofs.Common.{Result, Err, refl, sym, ◌∙◌, ap, subst, inl, inr, codes, cond}
+use Rattle.std.proofs.Common.{◌≡◌, ℕ, List, [], ◌∷◌, Bool, true, false, Option, Some, None, Ok}
+use Rattle.std.proofs.Common.{Result, Err, refl, sym, subst, inl, inr, codes}
 use Rattle.std.proofs.lemmas.Slice.Eq.{bytes_eq-Decides}
-use Rattle.std.specs.Str.{bytes_eq}
 use Rattle.plant_model.specs.declared.plant.Parts.{Parts}
 use Rattle.plant_model.specs.declared.wrench.Wrench.{Wrench}
 use Rattle.telegram.specs.declared.telegram.Reject.{Reject}
@@ -10,11 +9,10 @@ use Rattle.dp_words.specs.PlantSource.{PlantSays}
 use Rattle.dp_words.specs.Shown.{HasRisen, Shown}
 use Rattle.dp_words.specs.Words.{Placed, check_form, check_of, demand_of, form_of, json_of}
 use Rattle.dp_words.specs.Words.{options, placed, places}
-use Rattle.dp_words.specs.declared.form.Form.{Form}
 use Rattle.dp_words.specs.declared.form.Form.TheVariants.{Check, Replay}
 use Rattle.dp_words.specs.declared.status.RunStatus.{RunStatus}
 use Rattle.dp_words.specs.declared.status.RunStatus.TheVariants.{Clear, LossFound, NoMemory}
-use Rattle.dp_words.specs.declared.status.RunStatus.TheVariants.{Plant, Usage, WriteFault}
+use Rattle.dp_words.specs.declared.status.RunStatus.TheVariants.{WriteFault}
 use Rattle.dp_cli.specs.Checks.{AsksCheck, CheckOf, EndsFindings, IsSo, TookFindings}
 use Rattle.dp_cli.specs.Checks.{TookSomeFindings, names_check}
 use Rattle.dp_cli.specs.Plants.{HasPlantCause, WordsSay}

@@ -8,7 +8,7 @@ use Rattle.std.proofs.lemmas.List.{append-nil, length-append}
 use Rattle.frame.specs.Frames.{item_of_line, items, items_end, line_feed, open_line}
 use Rattle.frame.specs.declared.item.Item.{Item}
 use Rattle.frame.proofs.StreamItems.{items-feed, items-other}
-use Rattle.dp_cli.specs.Sessions.{IsFront}
+use Rattle.dp_cli.specs.Sessions.{IsBeginning, IsFront}
 
 -- the items of the bytes so far stay, whatever byte comes next
 items-byte-where : (fed : List ℕ) (byte : ℕ) (b : Bool) → (byte == line_feed) ≡ b
@@ -22,7 +22,7 @@ items-byte-where fed byte false is =
     let other : ¬ (byte ≡ line_feed) = grind (arith, nat_tests) in
     ([], items-other fed byte other ∙ sym (append-nil (items fed)))
 
-items-front : (front back : List ℕ)
+pub items-front : (front back : List ℕ)
     → (more : List Item) × (items (front ++ back) ≡ items front ++ more)
 items-front front [] = ([], ap items (append-nil front) ∙ sym (append-nil (items front)))
 items-front front (byte ∷ back) =
@@ -41,6 +41,11 @@ front-more front all more is = (
   ap (λ xs. xs ++ more) is.2 ∙ append_assoc front (is.0 ∷ is.1) more,
 )
 
+beginning-more : {A : Type 0} (front all more : List A) → IsBeginning front all
+    → IsBeginning front (all ++ more)
+beginning-more front all more is =
+    (is.0 ++ more, ap (λ xs. xs ++ more) is.1 ∙ append_assoc front is.0 more)
+
 -- the first items of a stream are those of a longer one
 pub front-items : (answered : List Item) (front back bytes : List ℕ) → bytes ≡ front ++ back
     → IsFront answered (items front) → IsFront answered (items bytes)
@@ -53,6 +58,15 @@ front-items answered front back bytes is first =
 pub front-end : (answered : List Item) (bytes : List ℕ) → IsFront answered (items bytes)
     → IsFront answered (items_end bytes)
 front-end answered bytes first = front-more answered (items bytes) _ first
+
+-- and so do the items that are the first of a stream's beginning
+pub beginning-end : (answered : List Item) (front back bytes : List ℕ) → bytes ≡ front ++ back
+    → IsBeginning answered (items front) → IsBeginning answered (items_end bytes)
+beginning-end answered front back bytes is first =
+    let all = items-front front back in
+    let whole = beginning-more answered (items bytes) _ in
+    whole (subst (λ (xs : List Item). IsBeginning answered xs) (sym (ap items is ∙ all.1))
+    (beginning-more answered (items front) all.0 first))
 
 pub front-short : {A : Type 0} (front all : List A) → IsFront front all → length front < length all
 front-short front all is = omega (arith, ap length is.2, length-append front (is.0 ∷ is.1))

@@ -1,11 +1,11 @@
 -- What a source gave and a sink took in one call after another.
-use Rattle.std.proofs.Common.{◌≡◌, ℕ, ◌+◌, ◌≤◌, List, ◌++◌, length, take, drop, Option, Some}
+use Rattle.std.proofs.Common.{◌≡◌, ℕ, ◌+◌, ◌<◌, ◌≤◌, List, ◌++◌, length, take, drop, Option, Some}
 use Rattle.std.proofs.Common.{None, Bool, true, false, not, refl, sym, ◌∙◌, ap, subst, inl, inr}
 use Rattle.std.proofs.Common.{append_assoc, arith}
 use Rattle.std.proofs.Math.Seq.{take-append_seam, take-append-add}
 use Rattle.std.proofs.lemmas.Bool.{cases_lt}
 use Rattle.std.proofs.lemmas.List.{take-append-drop, take-append-le, take-take}
-use Rattle.std.proofs.lemmas.List.{take_all}
+use Rattle.std.proofs.lemmas.List.{length-append, take_all}
 use Rattle.dp_io.specs.Streams.{Gave, Grew}
 use Rattle.dp_io.proofs.Grown.{Grew-append}
 use Rattle.dp_words.specs.Shown.{GrewInPart}
@@ -46,6 +46,31 @@ part-back before middle after x y whole part = (
   subst (λ (t : List ℕ). Grew before after t)
       (sym (take-append-add x y part.0))
       (Grew-append before middle after x (take part.0 y) whole part.1),
+)
+
+-- ---- a text of which some was taken, but not the whole
+
+-- of the first of two texts
+pub short-front : (before after : Option (List ℕ)) (x y : List ℕ)
+    → ((n : ℕ) × (n < length x) × Grew before after (take n x))
+    → (n : ℕ) × (n < length (x ++ y)) × Grew before after (take n (x ++ y))
+short-front before after x y short = (
+  short.0,
+  omega (arith, short.1, length-append x y),
+  subst (λ (t : List ℕ). Grew before after t)
+      (sym (take-append-le short.0 x y (omega (arith, short.1)))) short.2,
+)
+
+-- the first whole, and of the second some
+pub short-back : (before middle after : Option (List ℕ)) (x y : List ℕ) → Grew before middle x
+    → ((n : ℕ) × (n < length y) × Grew middle after (take n y))
+    → (n : ℕ) × (n < length (x ++ y)) × Grew before after (take n (x ++ y))
+short-back before middle after x y whole short = (
+  length x + short.0,
+  omega (arith, short.1, length-append x y),
+  subst (λ (t : List ℕ). Grew before after t)
+      (sym (take-append-add x y short.0))
+      (Grew-append before middle after x (take short.0 y) whole short.2),
 )
 
 -- ---- pieces of a text and of a stream

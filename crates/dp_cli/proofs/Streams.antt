@@ -1,21 +1,22 @@
--- How a stream may end: what was answered of it, and what its source gave.
+-- How a stream ends: at the end of its bytes, at an item that has no room or whose frames were cut, at
+-- a byte too many, and at a read fault.
 use Rattle.std.proofs.Common.{◌≡◌, ℕ, ◌<◌, ◌≤◌, List, [], ◌∷◌, ◌++◌, length, take, drop, Option}
-use Rattle.std.proofs.Common.{IfOk, Result, Ok, Err}
+use Rattle.std.proofs.Common.{IfOk, OnOk, Result, Ok, Err}
 use Rattle.std.proofs.Common.{Some, None, refl, sym, ◌∙◌, ap, subst, inl, inr, arith, append_assoc}
 use Rattle.std.specs.Option.{IfSome}
 use Rattle.std.proofs.lemmas.List.{take-append-drop, take-take}
-use Rattle.dp_io.specs.Streams.{Gave}
+use Rattle.dp_io.specs.Streams.{Gave, Rose}
 use Rattle.frame.specs.Frames.{StandsFor, items, items_end}
 use Rattle.frame.specs.declared.item.Item.{Item}
 use Rattle.plant_model.specs.declared.limits.TheConstants.{MOST_ENTRIES, MOST_STREAM_BYTES}
 use Rattle.plant_core.specs.Machine.{CoreView}
 use Rattle.dp_cli.specs.declared.session.Ending.{Ending}
-use Rattle.dp_cli.specs.declared.session.Ending.TheVariants.{End, Fault, Long, Full}
+use Rattle.dp_cli.specs.declared.session.Ending.TheVariants.{End, Fault, Long, Full, Write}
 use Rattle.dp_words.specs.Shown.{HasRisen, IsEmptied, Shown}
-use Rattle.dp_cli.specs.Sessions.{AnswersItems, AreTooMany, events_in}
-use Rattle.dp_cli.specs.Steps.{IsFilled, TakesEnd, TakesStream}
-use Rattle.dp_cli.proofs.Answered.{events-answered}
-use Rattle.dp_cli.proofs.Fronts.{front-end, front-items, front-short}
+use Rattle.dp_cli.specs.Sessions.{AreTooMany, events_in}
+use Rattle.dp_cli.specs.Steps.{HasAnswered, IsFilled, IsRunning, TakesBytes, TakesEnd, TakesStream}
+use Rattle.dp_cli.proofs.Blocks.{events-answered}
+use Rattle.dp_cli.proofs.Fronts.{beginning-end, front-end, front-items, front-short}
 
 -- a source that gave no byte, as it had none, has none left
 pub emptied-after : (before after : Option (List ℕ)) (piece : List ℕ)
@@ -28,6 +29,11 @@ emptied-after (Some (x ∷ bytes)) after piece gave none = absurd (cc)
 emptied-after None after piece gave none =
     subst (λ (a : Option (List ℕ)). IfSome a (λ bytes. bytes ≡ [])) (sym gave) tt
 
+-- a source that gave nothing yet
+pub gave-none : (left : Option (List ℕ)) → Gave left left []
+gave-none (Some bytes) = (bytes, refl, refl)
+gave-none None = refl
+
 -- the first bytes of a piece, and the others that were given
 pub piece-split : (fed piece : List ℕ) (part count : ℕ) → part ≤ count
     → fed ++ take count piece ≡ (fed ++ take part piece) ++ drop part (take count piece)
@@ -36,105 +42,161 @@ piece-split fed piece part count less =
     ∙ ap (λ (t : List ℕ). t ++ drop part (take count piece)) (take-take part count piece less))
     ∙ sym (append_assoc fed (take part piece) (drop part (take count piece)))
 
+-- a count of faults that rose later has risen
+pub rose-later : (before middle after : ℕ) → before ≤ middle → Rose middle after
+    → Rose before after
+rose-later before middle after less rose = omega (arith, less, rose)
+
 -- more items were given than the history has room for
-too-many : (core : CoreView) (given : List Item) → core.limit ≡ MOST_ENTRIES → IsFilled core given
-    → AreTooMany given
-too-many core given limit filled =
+too-many : (start now : Option (List ℕ)) (core : CoreView) (given : List Item)
+    → core.limit ≡ MOST_ENTRIES → IsFilled start now core given → AreTooMany given
+too-many start now core given limit filled =
     omega (arith, front-short filled.answered given filled.front, filled.limit, limit)
 
-filled-events : (core : CoreView) (given : List Item) → core.limit ≡ MOST_ENTRIES
-    → IsFilled core given → events_in core.history ≤ MOST_ENTRIES
-    → events_in core.history ≡ MOST_ENTRIES
-filled-events core given limit filled few = omega (
+filled-events : (start now : Option (List ℕ)) (core : CoreView) (given : List Item)
+    → core.limit ≡ MOST_ENTRIES → IsFilled start now core given
+    → events_in core.history ≤ MOST_ENTRIES → events_in core.history ≡ MOST_ENTRIES
+filled-events start now core given limit filled few = omega (
   arith,
-  events-answered core.history filled.answered filled.answers,
+  events-answered core.plant core.history filled.answered filled.has.answers,
   filled.limit,
   limit,
   few,
 )
 
--- the history was filled at an item of a whole line
-pub stream-full : (source : Shown) (core : CoreView) (bytes front back : List ℕ)
-    → Gave source.before source.after bytes → bytes ≡ front ++ back → core.limit ≡ MOST_ENTRIES
-    → IsFilled core (items front) → TakesStream Full source core.history
-stream-full source core bytes front back given split limit filled =
-    let first = front-items filled.answered front back bytes split filled.front in
+-- a core that took a stream up to here: it goes on, and has the room of a history
+pub record IsAtEnd (ending : Ending) (out : Shown) (core : CoreView) : Type 0 where
+  pub limit : core.limit ≡ MOST_ENTRIES
+  pub running : IsRunning core
+  pub failed : ending ≡ Write → HasRisen out
+
+-- the stream ended at an item of a whole line
+pub stream-stopped : (ending : Ending) (source out : Shown) (core : CoreView)
+    (framer : Option (List ℕ)) (bytes front back : List ℕ)
+    → Gave source.before source.after bytes → bytes ≡ front ++ back → IsAtEnd ending out core
+    → TakesBytes (Some ending) out.before out.after core framer front
+    → TakesStream ending source out core
+stream-stopped Full source out core framer bytes front back given split at taken =
+    let first = front-items taken.answered front back bytes split taken.front in
     record {
       bytes = bytes;
-      answered = filled.answered;
+      answered = taken.answered;
       given = given;
-      ends = filled-events core (items front) limit filled;
-      of_bytes = front-end filled.answered bytes first;
-      answers = filled.answers;
+      ends = filled-events out.before out.after core (items front) at.limit taken;
+      of_bytes = front-end taken.answered bytes first;
+      answers = taken.has.answers;
+      wrote = taken.has.wrote;
+      running = at.running;
       full = λ e. (
         bytes,
         given,
-        inl (omega (arith, front-short filled.answered (items bytes) first, filled.limit, limit)),
+        inl (omega (arith, front-short taken.answered (items bytes) first, taken.limit, at.limit)),
       );
     }
+stream-stopped Write source out core framer bytes front back given split at taken = record {
+  bytes = bytes;
+  answered = taken.answered;
+  given = given;
+  ends = λ few. at.failed refl;
+  of_bytes = beginning-end taken.answered front back bytes split taken.beginning;
+  answers = taken.answers;
+  wrote = taken.stops;
+  running = at.running;
+  full = λ e. cc;
+}
+stream-stopped End source out core framer bytes front back given split at taken = absurd taken
+stream-stopped Fault source out core framer bytes front back given split at taken = absurd taken
+stream-stopped Long source out core framer bytes front back given split at taken = absurd taken
 
 -- the stream was read to its end
-pub stream-end : (ending : Ending) (source : Shown) (core : CoreView) (bytes : List ℕ)
-    → Gave source.before source.after bytes → IsEmptied source → core.limit ≡ MOST_ENTRIES
-    → TakesEnd ending core bytes → TakesStream ending source core.history
-stream-end End source core bytes given emptied limit taken = record {
+pub stream-end : (ending : Ending) (source out : Shown) (core : CoreView) (bytes : List ℕ)
+    → Gave source.before source.after bytes → IsEmptied source → IsAtEnd ending out core
+    → TakesEnd ending out.before out.after core bytes → TakesStream ending source out core
+stream-end End source out core bytes given emptied at taken = record {
   bytes = bytes;
   answered = items_end bytes;
   given = given;
   ends = λ few. emptied;
   of_bytes = refl;
-  answers = taken;
+  answers = taken.answers;
+  wrote = taken.wrote;
+  running = at.running;
   full = λ e. cc;
 }
-stream-end Full source core bytes given emptied limit taken = record {
+stream-end Full source out core bytes given emptied at taken = record {
   bytes = bytes;
   answered = taken.answered;
   given = given;
-  ends = filled-events core (items_end bytes) limit taken;
+  ends = filled-events out.before out.after core (items_end bytes) at.limit taken;
   of_bytes = taken.front;
-  answers = taken.answers;
-  full = λ e. (bytes, given, inr (too-many core (items_end bytes) limit taken, emptied));
+  answers = taken.has.answers;
+  wrote = taken.has.wrote;
+  running = at.running;
+  full = λ e. (
+    bytes,
+    given,
+    inr (too-many out.before out.after core (items_end bytes) at.limit taken, emptied),
+  );
 }
-stream-end Fault source core bytes given emptied limit taken = absurd taken
-stream-end Long source core bytes given emptied limit taken = absurd taken
+stream-end Write source out core bytes given emptied at taken = record {
+  bytes = bytes;
+  answered = taken.answered;
+  given = given;
+  ends = λ few. at.failed refl;
+  of_bytes = taken.beginning;
+  answers = taken.answers;
+  wrote = taken.stops;
+  running = at.running;
+  full = λ e. cc;
+}
+stream-end Fault source out core bytes given emptied at taken = absurd taken
+stream-end Long source out core bytes given emptied at taken = absurd taken
 
 -- it has a byte more than a stream may have
-pub stream-long : (source : Shown) (core : CoreView) (bytes front : List ℕ)
+pub stream-long : (source out : Shown) (core : CoreView) (bytes front : List ℕ)
     → Gave source.before source.after bytes → MOST_STREAM_BYTES < length bytes
-    → take MOST_STREAM_BYTES bytes ≡ front → AnswersItems core.history (items front)
-    → TakesStream Long source core.history
-stream-long source core bytes front given long is answers = record {
+    → take MOST_STREAM_BYTES bytes ≡ front → IsRunning core
+    → HasAnswered out.before out.after core (items front) → TakesStream Long source out core
+stream-long source out core bytes front given long is running has = record {
   bytes = bytes;
   answered = items front;
   given = given;
   ends = λ few. long;
   of_bytes = ap items (sym is);
-  answers = answers;
+  answers = has.answers;
+  wrote = has.wrote;
+  running = running;
   full = λ e. cc;
 }
 
 -- a read failed
-pub stream-fault : (source : Shown) (core : CoreView) (bytes : List ℕ)
-    → Gave source.before source.after bytes → HasRisen source
-    → AnswersItems core.history (items bytes) → TakesStream Fault source core.history
-stream-fault source core bytes given risen answers = record {
+pub stream-fault : (source out : Shown) (core : CoreView) (bytes : List ℕ)
+    → Gave source.before source.after bytes → HasRisen source → IsRunning core
+    → HasAnswered out.before out.after core (items bytes) → TakesStream Fault source out core
+stream-fault source out core bytes given risen running has = record {
   bytes = bytes;
   answered = items bytes;
   given = given;
   ends = λ few. risen;
   of_bytes = refl;
-  answers = answers;
+  answers = has.answers;
+  wrote = has.wrote;
+  running = running;
   full = λ e. cc;
 }
 
--- what a stream's end gave was answered, or memory ran out
-pub stream-ended : {E : Type 0} (result : Result Ending E) (source : Shown) (old core : CoreView)
-    (framer : Option (List ℕ)) (bytes : List ℕ)
+-- what a stream's end gave was taken, or memory ran out
+pub stream-ended : {E : Type 0} (result : Result Ending E) (source out : Shown)
+    (now : Option (List ℕ)) (old core : CoreView) (framer : Option (List ℕ)) (bytes : List ℕ)
     → Gave source.before source.after bytes → IsEmptied source → core.limit ≡ MOST_ENTRIES
-    → StandsFor framer bytes → AnswersItems old.history (items bytes)
-    → IfOk result (λ ending. (fed : List ℕ) → StandsFor framer fed
-    → AnswersItems old.history (items fed) → TakesEnd ending core fed)
-    → IfOk result (λ ending. TakesStream ending source core.history)
-stream-ended (Ok ending) source old core framer bytes given emptied limit stands answers taken =
-    stream-end ending source core bytes given emptied limit (taken bytes stands answers)
-stream-ended (Err error) source old core framer bytes given emptied limit stands answers taken = tt
+    → StandsFor framer bytes → HasAnswered out.before now old (items bytes)
+    → OnOk result (IsRunning core) → (result ≡ Ok Write → HasRisen out)
+    → IfOk result (λ ending. (start : Option (List ℕ)) (fed : List ℕ) → StandsFor framer fed
+    → HasAnswered start now old (items fed) → TakesEnd ending start out.after core fed)
+    → IfOk result (λ ending. TakesStream ending source out core)
+stream-ended (Ok ending) source out now old core framer bytes given emptied limit stands has running
+    failed taken = stream-end ending source out core bytes given emptied
+    (record { limit = limit; running = running; failed = λ e. failed (ap Ok e) })
+    (taken out.before bytes stands has)
+stream-ended (Err error) source out now old core framer bytes given emptied limit stands has running
+    failed taken = tt

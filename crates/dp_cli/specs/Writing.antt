@@ -1,5 +1,7 @@
 -- What a call that writes to a sink ends with.
-use Rattle.std.specs.Prelude.{◌≡◌, ◌≤◌, ℕ, List, ◌⊎◌, Result, Err, OnOk, IfErr}
+use Rattle.std.specs.Prelude.{◌≡◌, ◌<◌, ◌≤◌, ℕ, List, ◌⊎◌, Bool, true, false, Result, Err}
+use Rattle.std.specs.Prelude.{OnOk, IfErr, length, take}
+use Rattle.dp_io.specs.Streams.{Grew}
 use Rattle.dp_words.specs.Shown.{HasRisen, Shown, Took, TookPart}
 use Rattle.dp_words.specs.declared.status.RunStatus.{RunStatus}
 use Rattle.dp_words.specs.declared.status.RunStatus.TheVariants as statuses
@@ -21,3 +23,13 @@ pub record EndsText (result : Result (Unit {0}) RunStatus) (sink : Shown) (text 
   pub whole : OnOk result (Took sink text)
   pub part : result ≡ Err statuses.WriteFault → TookPart sink text
   pub writing : EndsWriting result sink
+
+-- a sink took first bytes of the text, but not the whole
+abbrev pub TookFront : Shown → List ℕ → Type 0
+TookFront sink text = (count : ℕ) × (count < length text)
+    × Grew sink.before sink.after (take count text)
+
+-- the frames were written, or at a write fault some of their bytes
+abbrev pub WritesFrames : Bool → Shown → List ℕ → Type 0
+WritesFrames true sink frames = Took sink frames
+WritesFrames false sink frames = TookFront sink frames × HasRisen sink

@@ -32,16 +32,16 @@ fn replay<A: Source, B: Source, O: Sink>(
         Err(status) => return status,
     };
     match session(alloc, plant, telegrams, out) {
-        Ok(ending) => ending.status(),
+        Ok(ended) => ended.status(),
         Err(status) => status,
     }
 }
 
 /// Runs the session that the words `replay PLANT TELEGRAMS` ask for, over the telegrams of the second source.
 ///
-/// Where the words have that form, there is a plant and nothing fails, `out` takes the log of the session's history
-/// and then its report. The status says what failed else, and `err` takes its line. The first source is that of the
-/// plant file, which isn't read where the plant is the built-in one.
+/// Where the words have that form, there is a plant and nothing fails, `out` takes the frames of the session's commands
+/// as they are answered, and then the log of its history and its report. The status says what failed else, and `err`
+/// takes its line. The first source is that of the plant file, which isn't read where the plant is the built-in one.
 pub fn replay_call<A: Source, B: Source, O: Sink, E: Sink>(
     alloc: Global,
     words: &[String],

@@ -1,27 +1,31 @@
-//! A session over one stream: each item of the stream is a call of the machine, and the history is written at the
-//! end.
-ghost use Rattle.std.specs.Prelude.{◌≡◌, ◌≤◌, List, ℕ, [], ◌∷◌, ◌++◌};
-ghost use Rattle.std.specs.Prelude.{IfOk};
+//! A session over one stream: each item of the stream is a call of the machine, whose commands are written at once,
+//! each version is analysed for each loss, and the history is written at the end.
+ghost use Rattle.std.specs.Prelude.{◌≡◌, ◌≢◌, ◌≤◌, ◌<◌, List, ℕ, [], ◌++◌, length, false};
+ghost use Rattle.std.specs.Prelude.{IfOk, OnOk, Option};
 ghost use Rattle.frame.specs.Frames.{StandsFor, items};
-ghost use Rattle.frame.specs.declared.item.Item.{Item as FrameItem};
-ghost use Rattle.telegram.specs.declared.telegram.Telegram.{Telegram as TelegramKind};
-ghost use Rattle.plant_core.specs.Machine.{IsCall};
-ghost use Rattle.dp_cli.specs.Sessions.{asked_for, caller_of, AnswersItems};
-ghost use Rattle.dp_words.specs.Shown.{shown};
-ghost use Rattle.dp_cli.specs.Sessions.{GaveTooManyItems};
+ghost use Rattle.plant_model.specs.declared.plant.Parts.{Parts};
+ghost use Rattle.plant_core.specs.Board.{is_shown};
+ghost use Rattle.plant_core.specs.Machine.{IsCall, state_of};
+ghost use Rattle.dp_words.specs.Shown.{HasRisen, shown};
+ghost use Rattle.dp_cli.specs.Sessions.{AnswersItems, GaveTooManyItems, WritesPart, WritesWhole};
+ghost use Rattle.dp_cli.specs.Sessions.{asked_for, caller_of, has_lost_cell, is_lost_cell};
+ghost use Rattle.dp_cli.specs.Sessions.{status_of, told};
+ghost use Rattle.dp_cli.specs.Steps.{AddsVerdict, AddsVerdicts, HasAnswered, IsRunning, NoneIsShown};
 ghost use Rattle.dp_cli.specs.Steps.{TakesBytes, TakesEnd, TakesItem, TakesStream};
-ghost use Rattle.dp_cli.specs.Sessions.{status_of, written};
-ghost use Rattle.dp_cli.specs.Sessions.{WritesWhole, WritesPart};
-ghost use Rattle.dp_cli.specs.Writing.{EndsText, EndsWriting};
+ghost use Rattle.dp_cli.specs.Writing.{EndsText, EndsWriting, WritesFrames};
+ghost use Rattle.log_text.specs.Commands.{command_text};
 ghost use Rattle.log_text.specs.Texts.{log_text, report_text};
 
 use crate::writing::send_lines;
+use allocator::Direct;
 use dp_io::{NoMemory, Sink, Source, send_all};
 use dp_words::RunStatus;
+use feasibility::analyse;
 use frame::{Framer, Item};
-use plant_core::{Call, Core, Note, Reply};
+use plant_core::{Call, Cell, Core, Entry, Note, Reply};
 use plant_model::limits::{MOST_ENTRIES, MOST_STREAM_BYTES};
 use plant_model::plant::Plant;
+use plant_model::status::Loss;
 use std::alloc::Global;
 use telegram::Telegram;
 
@@ -46,6 +50,15 @@ pub enum Ending {
     Long,
     /// An item more than a history has room for.
     Full,
+    /// A write fault in the frames of a command.
+    Write,
+}
+
+/// How a session ended of which all was written: its stream's ending, and whether the demand isn't met after some loss.
+#[derive(Clone, Copy, Debug, PartialEq, Eq)]
+pub struct Ended {
+    pub ending: Ending,
+    pub is_lost: bool,
 }
 
 /// Who asks for what a telegram says: the control loop at the telegrams of sensors, else the operators.
@@ -61,7 +74,7 @@ fn caller_of(telegram: &Telegram) -> u32
 /// What is asked for an item, and by which caller.
 fn asked_for(item: Item) -> (u32, Call)
     ensures asked { result ≡ asked_for item }
-    ensures within { IsCall result.1 }
+    ensures within { (plant : Parts) → IsCall plant result.1 }
 {
     match item {
         Item::Body(body) => match telegram::read(&body) {
@@ -72,75 +85,182 @@ fn asked_for(item: Item) -> (u32, Call)
     }
 }
 
-/// Answers an item: its call is the next entry of the history. False where the history has no room for it, and then
-/// nothing changed.
-fn take_item(core: &mut Core, item: Item) -> Result<bool, NoMemory>
-    requires { (answered : List FrameItem) × AnswersItems core.old.history answered }
+/// Publishes a verdict of the latest version on the loss of a group, whose place is below the plant's count. It is
+/// shown.
+fn publish(core: &mut Core, group: u32) -> Result<(), NoMemory>
+    requires group { group < length core.old.plant.groups.items }
+    requires is_open { (state_of core.old).is_closed ≡ false }
+    requires unshown { is_shown (state_of core.old) group ≡ false }
     ensures plant { core.new.plant ≡ core.old.plant }
     ensures limit { core.new.limit ≡ core.old.limit }
-    ensures answered { IfOk result (λ has_room. TakesItem has_room core.old core.new item) }
+    ensures verdict { OnOk result (AddsVerdict core.old core.new group) }
 {
-    let (caller, call) = asked_for(item);
-    let reply = core.apply(caller, call)?;
-    Ok(!matches!(reply, Reply::JournalFull))
+    let version = *core.latest();
+    let outcome = analyse(
+        core.plant(),
+        &version.status,
+        Loss::Group(group),
+        version.demand,
+    );
+    let verdict = Call::Publish {
+        version: version.number,
+        group,
+        outcome,
+    };
+    core.apply(SESSION, verdict, &Direct)?;
+    Ok(())
 }
 
-/// Answers the items that these bytes of the stream complete. False at the first that the history has no room for.
-fn take_bytes(core: &mut Core, framer: &mut Framer, bytes: &[u8]) -> Result<bool, NoMemory>
-    requires { (fed : List ℕ) × StandsFor framer.old fed
-        × AnswersItems core.old.history (items fed) }
+/// Publishes verdicts of the latest version on the losses of all groups, in order. Each is shown.
+fn publish_all(core: &mut Core) -> Result<(), NoMemory>
+    requires is_open { (state_of core.old).is_closed ≡ false }
+    requires unshown { NoneIsShown core.old.plant (state_of core.old) }
     ensures plant { core.new.plant ≡ core.old.plant }
     ensures limit { core.new.limit ≡ core.old.limit }
-    ensures answered { IfOk result (λ has_room. (fed : List ℕ) → StandsFor framer.old fed
-        → AnswersItems core.old.history (items fed)
-        → TakesBytes has_room core.new framer.new (fed ++ bytes.now)) }
+    ensures verdicts { OnOk result (AddsVerdicts core.old core.new) }
+{
+    for group in 0..core.plant().groups().len() as u32 {
+        publish(core, group)?;
+    }
+    Ok(())
+}
+
+/// Writes the frames of an entry's command, each as a piece of its own. False at a write fault.
+fn write_command<S: Sink>(
+    alloc: Global,
+    plant: &Plant,
+    entry: &Entry,
+    out: &mut S,
+) -> Result<bool, NoMemory>
+    ensures frames { IfOk result (λ is_written. WritesFrames is_written
+        (shown S.taken S.faults out.old out.new) (command_text plant.now entry.now)) }
+    ensures counted { S.faults out.old ≤ S.faults out.new }
+{
+    let frames = log_text::command_text(alloc, plant, entry)?;
+    Ok(send_lines(out, frames.as_bytes()).is_ok())
+}
+
+/// Answers an item: its call is the next entry of the history. The frames of its command are written at once, and
+/// where it made a version, verdicts on all losses are published. Some ending where the stream ends here: `Full` where
+/// the history has no room for the item, and then nothing changed, or `Write` where the frames couldn't be written.
+fn take_item<S: Sink>(
+    alloc: Global,
+    core: &mut Core,
+    item: Item,
+    out: &mut S,
+) -> Result<Option<Ending>, NoMemory>
+    requires { IsRunning core.old }
+    ensures plant { core.new.plant ≡ core.old.plant }
+    ensures limit { core.new.limit ≡ core.old.limit }
+    ensures taken { IfOk result (λ ending. TakesItem ending core.old core.new item
+        (shown S.taken S.faults out.old out.new)) }
+    ensures failed { result ≡ Ok (Some Ending.Write)
+        → HasRisen (shown S.taken S.faults out.old out.new) }
+    ensures counted { S.faults out.old ≤ S.faults out.new }
+{
+    let (caller, call) = asked_for(item);
+    let version = core.latest().number;
+    let reply = core.apply(caller, call, &Direct)?;
+    if matches!(reply, Reply::JournalFull) {
+        return Ok(Some(Ending::Full));
+    }
+    let Some(entry) = core.history().last() else {
+        unreachable!();
+    };
+    let is_written = write_command(alloc, core.plant(), entry, out)?;
+    if core.latest().number != version {
+        publish_all(core)?;
+    }
+    Ok(if is_written {
+        None
+    } else {
+        Some(Ending::Write)
+    })
+}
+
+/// Answers the items that these bytes of the stream complete. Some ending where the stream ends at one.
+fn take_bytes<S: Sink>(
+    alloc: Global,
+    core: &mut Core,
+    framer: &mut Framer,
+    bytes: &[u8],
+    out: &mut S,
+) -> Result<Option<Ending>, NoMemory>
+    requires { IsRunning core.old }
+    ensures plant { core.new.plant ≡ core.old.plant }
+    ensures limit { core.new.limit ≡ core.old.limit }
+    ensures running { OnOk result (IsRunning core.new) }
+    ensures taken { IfOk result (λ ending. (start : Option (List ℕ)) (fed : List ℕ)
+        → StandsFor framer.old fed → HasAnswered start (S.taken out.old) core.old (items fed)
+        → TakesBytes ending start (S.taken out.new) core.new framer.new (fed ++ bytes.now)) }
+    ensures failed { result ≡ Ok (Some Ending.Write)
+        → HasRisen (shown S.taken S.faults out.old out.new) }
+    ensures counted { S.faults out.old ≤ S.faults out.new }
 {
     for byte in bytes {
         if let Some(item) = framer.feed(*byte) {
-            if !take_item(core, item)? {
-                return Ok(false);
+            let ending = take_item(alloc, core, item, out)?;
+            if ending.is_some() {
+                return Ok(ending);
             }
         }
     }
-    Ok(true)
+    Ok(None)
 }
 
 /// Answers the item that the end of the stream completes.
-fn take_end(core: &mut Core, framer: &mut Framer) -> Result<Ending, NoMemory>
-    requires { (fed : List ℕ) × StandsFor framer.old fed
-        × AnswersItems core.old.history (items fed) }
+fn take_end<S: Sink>(
+    alloc: Global,
+    core: &mut Core,
+    framer: &mut Framer,
+    out: &mut S,
+) -> Result<Ending, NoMemory>
+    requires { IsRunning core.old }
     ensures plant { core.new.plant ≡ core.old.plant }
     ensures limit { core.new.limit ≡ core.old.limit }
-    ensures answered { IfOk result (λ ending. (fed : List ℕ) → StandsFor framer.old fed
-        → AnswersItems core.old.history (items fed) → TakesEnd ending core.new fed) }
+    ensures running { OnOk result (IsRunning core.new) }
+    ensures taken { IfOk result (λ ending. (start : Option (List ℕ)) (fed : List ℕ)
+        → StandsFor framer.old fed → HasAnswered start (S.taken out.old) core.old (items fed)
+        → TakesEnd ending start (S.taken out.new) core.new fed) }
+    ensures failed { result ≡ Ok Ending.Write
+        → HasRisen (shown S.taken S.faults out.old out.new) }
+    ensures counted { S.faults out.old ≤ S.faults out.new }
 {
-    if let Some(item) = framer.finish() {
-        if !take_item(core, item)? {
-            return Ok(Ending::Full);
-        }
-    }
-    Ok(Ending::End)
+    let Some(item) = framer.finish() else {
+        return Ok(Ending::End);
+    };
+    let ending = take_item(alloc, core, item, out)?;
+    Ok(ending.unwrap_or(Ending::End))
 }
 
 /// Answers each item of a stream until the stream ends, in whatever pieces its bytes come.
-fn take_stream<S: Source>(core: &mut Core, source: &mut S) -> Result<Ending, NoMemory>
-    requires new { core.old.history ≡ [] }
+fn take_stream<S: Source, O: Sink>(
+    alloc: Global,
+    core: &mut Core,
+    source: &mut S,
+    out: &mut O,
+) -> Result<Ending, NoMemory>
+    requires running { IsRunning core.old }
+    requires new { AnswersItems core.old.plant core.old.history [] }
     requires limit { core.old.limit ≡ MOST_ENTRIES }
     ensures plant { core.new.plant ≡ core.old.plant }
     ensures limit { core.new.limit ≡ core.old.limit }
-    ensures answered { IfOk result (λ ending. TakesStream ending
-        (shown S.left S.faults source.old source.new) core.new.history) }
+    ensures taken { IfOk result (λ ending. TakesStream ending
+        (shown S.left S.faults source.old source.new) (shown O.taken O.faults out.old out.new)
+        core.new) }
     ensures counted { S.faults source.old ≤ S.faults source.new }
+    ensures written { O.faults out.old ≤ O.faults out.new }
 {
     let mut framer = Framer::new();
     let mut piece = [0; PIECE_BYTES];
     let mut room = MOST_STREAM_BYTES;
     while let Ok(count) = source.read(&mut piece) {
         if count == 0 {
-            return take_end(core, &mut framer);
+            return take_end(alloc, core, &mut framer, out);
         }
-        if !take_bytes(core, &mut framer, &piece[..count.min(room)])? {
-            return Ok(Ending::Full);
+        let taken = take_bytes(alloc, core, &mut framer, &piece[..count.min(room)], out)?;
+        if let Some(ending) = taken {
+            return Ok(ending);
         }
         if count > room {
             return Ok(Ending::Long);
@@ -177,45 +297,72 @@ fn write_report<S: Sink>(alloc: Global, core: &Core, out: &mut S) -> Result<(), 
 /// Writes the log of the history and then its report. The error is `WriteFault` or `NoMemory`.
 fn write_history<S: Sink>(alloc: Global, core: &Core, out: &mut S) -> Result<(), RunStatus>
     ensures { EndsText result (shown S.taken S.faults out.old out.new)
-        (written core.now.plant core.now.history) }
+        (told core.now.plant core.now.history) }
 {
     write_log(alloc, core, out)?;
     write_report(alloc, core, out)
 }
 
-impl Ending {
-    /// The status of a session whose stream ended so, where all was written.
+fn is_lost_cell(cell: &Cell) -> bool
+    ensures { result ≡ is_lost_cell cell.now }
+{
+    match cell {
+        Cell::Pending => false,
+        Cell::Seen { holds, current, .. } => *current && !*holds,
+    }
+}
+
+/// Whether the report says of some group that the demand isn't met after its loss.
+fn has_lost_cell(core: &Core) -> bool
+    ensures { result ≡ has_lost_cell core.now.plant core.now.history }
+{
+    let cells = core.cells();
+    cells.list.as_slice().iter().any(|cell| is_lost_cell(cell))
+}
+
+impl Ended {
+    /// The status of a session that ended so.
     pub fn status(self) -> RunStatus
-        ensures { result ≡ status_of self }
+        ensures { result ≡ status_of self.ending self.is_lost }
     {
-        match self {
+        match self.ending {
+            Ending::End if self.is_lost => RunStatus::LossFound,
             Ending::End => RunStatus::Clear,
             Ending::Fault => RunStatus::ReadFault,
             Ending::Long => RunStatus::StreamTooLong,
             Ending::Full => RunStatus::JournalFull,
+            Ending::Write => RunStatus::WriteFault,
         }
     }
 }
 
-/// A session of the plant over a stream: each item is answered, the session is closed, and its history is written.
-/// The error is `WriteFault` or `NoMemory`.
+/// A session of the plant over a stream: verdicts on all losses are published for the opening and for each new version,
+/// each item is answered, with the frames of its command written at once, the session is closed, and its history is
+/// written. The error is `WriteFault` or `NoMemory`.
 pub fn session<S: Source, O: Sink>(
     alloc: Global,
     plant: Plant,
     source: &mut S,
     out: &mut O,
-) -> Result<Ending, RunStatus>
-    ensures ended { IfOk result (λ ending. WritesWhole plant ending
-        (shown S.left S.faults source.old source.new) (shown O.taken O.faults out.old out.new)) }
-    ensures full { result ≡ Ok Ending.Full
-        → GaveTooManyItems (shown S.left S.faults source.old source.new) }
+) -> Result<Ended, RunStatus>
+    ensures ended { IfOk result (λ ended. WritesWhole plant ended.ending
+        (status_of ended.ending ended.is_lost) (shown S.left S.faults source.old source.new)
+        (shown O.taken O.faults out.old out.new)) }
+    ensures whole { IfOk result (λ ended. ended.ending ≢ Ending.Write) }
+    ensures full { IfOk result (λ ended. ended.ending ≡ Ending.Full
+        → GaveTooManyItems (shown S.left S.faults source.old source.new)) }
     ensures cut { result ≡ Err RunStatus.WriteFault → WritesPart plant
         (shown S.left S.faults source.old source.new) (shown O.taken O.faults out.old out.new) }
     ensures writing { EndsWriting result (shown O.taken O.faults out.old out.new) }
 {
     let mut core = Core::start(alloc, plant, MOST_ENTRIES)?;
-    let ending = take_stream(&mut core, source)?;
-    core.apply(SESSION, Call::Close)?;
+    publish_all(&mut core)?;
+    let ending = take_stream(alloc, &mut core, source, out)?;
+    core.apply(SESSION, Call::Close, &Direct)?;
+    if ending == Ending::Write {
+        return Err(RunStatus::WriteFault);
+    }
     write_history(alloc, &core, out)?;
-    Ok(ending)
+    let is_lost = has_lost_cell(&core);
+    Ok(Ended { ending, is_lost })
 }

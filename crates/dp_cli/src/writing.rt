@@ -1,14 +1,15 @@
 //! Texts that are handed to a sink line by line.
 ghost use Rattle.std.specs.Prelude.{◌≤◌, OnErr, OnOk};
 ghost use Rattle.dp_io.specs.Streams.{Rose};
-ghost use Rattle.dp_words.specs.Shown.{Took, TookPart, shown};
+ghost use Rattle.dp_cli.specs.Writing.{TookFront};
+ghost use Rattle.dp_words.specs.Shown.{Took, shown};
 
 use dp_io::{Failed, Sink, send_all};
 
 /// Hands over each line of the text as a piece of its own.
 pub fn send_lines<S: Sink>(sink: &mut S, text: &[u8]) -> Result<(), Failed>
     ensures whole { OnOk result (Took (shown S.taken S.faults sink.old sink.new) text.now) }
-    ensures part { OnErr result (TookPart (shown S.taken S.faults sink.old sink.new) text.now) }
+    ensures part { OnErr result (TookFront (shown S.taken S.faults sink.old sink.new) text.now) }
     ensures failed { OnErr result (Rose (S.faults sink.old) (S.faults sink.new)) }
     ensures counted { S.faults sink.old ≤ S.faults sink.new }
 {

@@ -1,2 +1,14 @@
+pub mod Alarms
+pub mod CommandBodies
+pub mod FitLists
+pub mod FrameTexts
+pub mod Groups
 pub mod Integers
 pub mod Pairs
+pub mod ToldCalls
+pub mod ToldEntries
+pub mod ToldFields
+pub mod ToldGroups
+pub mod ToldNumbers
+pub mod ToldOutcomes
+pub mod ToldReplies

@@ -12,7 +12,7 @@ use Rattle.certificate.specs.declared.outcome.Cuts.{Cuts}
 use Rattle.certificate.specs.declared.outcome.Outcome.{Outcome}
 use Rattle.certificate.specs.declared.outcome.Outcome.TheVariants.{Holds, Lost}
 use Rattle.plant_core.specs.declared.allocation.Allocation.{Allocation}
-use Rattle.log_text.specs.Texts.{line}
+use Rattle.log_text.specs.Lines.{line}
 use Rattle.log_text.specs.declared.findings.Findings.{Findings}
 
 -- a thrust along x and along y, each after a comma

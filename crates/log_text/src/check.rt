@@ -2,10 +2,10 @@
 ghost use Rattle.std.specs.Prelude.{◌≡◌, ◌++◌, IfOk, OnOk, length, string_bytes};
 ghost use Rattle.std.specs.List.{flat_map, zip};
 ghost use Rattle.log_text.specs.Outcomes.{allocation_text, check_head, check_text, intact_text};
-ghost use Rattle.log_text.specs.Outcomes.{loss_text, wrench_text};
+ghost use Rattle.log_text.specs.Outcomes.{loss_text};
 
 use crate::findings::Findings;
-use crate::outcome::{push_given_part, push_outcome};
+use crate::outcome::{push_given_part, push_outcome, push_wrench};
 use certificate::Outcome;
 use dp_io::NoMemory;
 use plant_core::Allocation;
@@ -13,14 +13,6 @@ use plant_model::parts::Group;
 use plant_model::plant::Plant;
 use plant_model::wrench::Wrench;
 use std::alloc::{AllocError, Global};
-
-/// Appends the demand along x, along y and in yaw.
-fn push_wrench(text: &mut String, demand: &Wrench) -> Result<(), AllocError>
-    ensures { OnOk result (string_bytes text.new ≡ string_bytes text.old ++ wrench_text demand.now) }
-{
-    let Wrench { x, y, n } = demand;
-    write!(text, "{x},{y},{n}")
-}
 
 fn push_head(text: &mut String, demand: &Wrench) -> Result<(), AllocError>
     ensures { OnOk result (string_bytes text.new ≡ string_bytes text.old ++ check_head demand.now) }

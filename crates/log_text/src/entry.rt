@@ -1,11 +1,16 @@
 //! The log of a history: its first line, and a line for each entry.
-ghost use Rattle.std.specs.Prelude.{◌≡◌, ◌++◌, IfOk, IsTrue, OnOk, string_bytes};
-ghost use Rattle.plant_core.specs.Machine.{is_answer};
-ghost use Rattle.log_text.specs.Texts.{caller_text, call_text, cell_text, cells_text, demand_text};
-ghost use Rattle.log_text.specs.Texts.{entry_text, log_head, note_text, reply_text};
+ghost use Rattle.std.specs.Prelude.{◌≡◌, ◌<◌, ◌++◌, IfOk, IsTrue, OnOk, length, string_bytes};
+ghost use Rattle.plant_core.specs.Machine.{IsCall, is_answer};
+ghost use Rattle.plant_core.specs.declared.call.Reply.TheVariants.{Refused};
+ghost use Rattle.log_text.specs.Texts.{caller_text, call_text, cell_text, cells_text};
+ghost use Rattle.log_text.specs.Texts.{commanded_text, entry_text, group_name, log_head, note_text};
+ghost use Rattle.log_text.specs.Texts.{place_text, reply_text, verdict_text};
 
+use crate::outcome::{push_given_part, push_outcome, push_wrench};
+use certificate::{Outcome, Place};
 use dp_io::NoMemory;
-use plant_core::{Call, Cell, Cells, Entry, Note, Reply};
+use plant_core::{Allocation, Call, Cell, Cells, Entry, Note, Reply};
+use plant_model::name::Name;
 use plant_model::plant::Plant;
 use plant_model::wrench::Wrench;
 use std::alloc::{AllocError, Global};
@@ -41,23 +46,61 @@ fn push_note(text: &mut String, note: &Note) -> Result<(), AllocError>
     }
 }
 
-fn push_call(text: &mut String, call: &Call) -> Result<(), AllocError>
-    ensures { OnOk result (string_bytes text.new ≡ string_bytes text.old ++ call_text call.now) }
+fn name_of_group(plant: &Plant, group: u32) -> &Name
+    requires { group < length plant.now.groups.items }
+    ensures { result.now ≡ group_name plant.now group }
+{
+    &plant.groups().as_slice()[group as usize].name
+}
+
+/// Appends a verdict of a version on the loss of a group of the plant.
+fn push_verdict(
+    text: &mut String,
+    plant: &Plant,
+    version: u32,
+    group: u32,
+    outcome: &Outcome,
+) -> Result<(), AllocError>
+    requires { group < length plant.now.groups.items }
+    ensures { OnOk result (string_bytes text.new
+        ≡ string_bytes text.old ++ verdict_text plant.now version group outcome.now) }
+{
+    let name = name_of_group(plant, group);
+    write!(text, "PUBLISH,{version},{name},")?;
+    push_outcome(text, outcome)
+}
+
+fn push_call(text: &mut String, plant: &Plant, call: &Call) -> Result<(), AllocError>
+    requires { IsCall plant.now call.now }
+    ensures { OnOk result (string_bytes text.new
+        ≡ string_bytes text.old ++ call_text plant.now call.now) }
 {
     match call {
         Call::Telegram(telegram) => text.push_str(telegram::write(telegram).as_str()),
         Call::Note(note) => push_note(text, note),
+        Call::Publish {
+            version,
+            group,
+            outcome,
+        } => push_verdict(text, plant, *version, *group, outcome),
         Call::Close => text.push_str("CLOSE"),
     }
 }
 
-/// Appends a version's number with what was asked of the thrusters.
-fn push_demand(text: &mut String, version: u32, demand: &Wrench) -> Result<(), AllocError>
+/// Appends a version's number, what was asked of the thrusters, and what they are to give.
+fn push_command(
+    text: &mut String,
+    version: u32,
+    demand: &Wrench,
+    allocation: &Allocation,
+) -> Result<(), AllocError>
     ensures { OnOk result (string_bytes text.new
-        ≡ string_bytes text.old ++ demand_text version demand.now) }
+        ≡ string_bytes text.old ++ commanded_text version demand.now allocation.now) }
 {
-    let Wrench { x, y, n } = demand;
-    write!(text, "COMMANDED,{version},{x},{y},{n}")
+    write!(text, "COMMANDED,{version},")?;
+    push_wrench(text, demand)?;
+    text.push_str(",")?;
+    push_given_part(text, allocation)
 }
 
 fn push_cell(text: &mut String, cell: &Cell) -> Result<(), AllocError>
@@ -89,6 +132,29 @@ fn push_cells(text: &mut String, cells: &Cells) -> Result<(), AllocError>
     Ok(())
 }
 
+/// Appends where an outcome first fails.
+fn push_place(text: &mut String, place: Place) -> Result<(), AllocError>
+    ensures { OnOk result (string_bytes text.new ≡ string_bytes text.old ++ place_text place) }
+{
+    match place {
+        Place::Denominator => text.push_str("DENOMINATOR"),
+        Place::Choice => text.push_str("CHOICE"),
+        Place::ThrustCount => text.push_str("THRUST-COUNT"),
+        Place::Thruster(thruster) => write!(text, "THRUSTER,{thruster}"),
+        Place::Sum => text.push_str("SUM"),
+        Place::CutCount => text.push_str("CUT-COUNT"),
+        Place::Cut(choice) => write!(text, "CUT,{choice}"),
+    }
+}
+
+fn push_refusal(text: &mut String, place: Place) -> Result<(), AllocError>
+    ensures { OnOk result (string_bytes text.new
+        ≡ string_bytes text.old ++ reply_text (Refused place)) }
+{
+    text.push_str("REFUSED,")?;
+    push_place(text, place)
+}
+
 /// Appends the text of an answer. `JournalFull` and `Closed` are no answers and have none.
 fn push_reply(text: &mut String, reply: &Reply) -> Result<(), AllocError>
     requires { IsTrue (is_answer reply.now) }
@@ -100,25 +166,36 @@ fn push_reply(text: &mut String, reply: &Reply) -> Result<(), AllocError>
         Reply::Taken => text.push_str("TAKEN"),
         Reply::UnknownName => text.push_str("UNKNOWN-NAME"),
         Reply::NoPiece => text.push_str("NO-PIECE"),
-        Reply::Commanded { version, demand } => push_demand(text, *version, demand),
+        Reply::Commanded {
+            version,
+            demand,
+            allocation,
+        } => push_command(text, *version, demand, allocation),
         Reply::Late { last } => write!(text, "LATE,{last}"),
         Reply::WrongMode => text.push_str("WRONG-MODE"),
         Reply::Noted => text.push_str("NOTED"),
         Reply::NoSuchAlarm => text.push_str("NO-SUCH-ALARM"),
         Reply::Cells(cells) => push_cells(text, cells),
+        Reply::Shown => text.push_str("SHOWN"),
+        Reply::Superseded { latest } => write!(text, "SUPERSEDED,{latest}"),
+        Reply::Unknown { latest } => write!(text, "UNKNOWN,{latest}"),
+        Reply::Already => text.push_str("ALREADY"),
+        Reply::Refused { place } => push_refusal(text, *place),
         Reply::JournalFull | Reply::Closed => Ok(()),
     }
 }
 
-/// The log's line of an entry of the plant's history: the caller, the call, `=` and the reply, which is an answer.
-pub fn entry_text(alloc: Global, _plant: &Plant, entry: &Entry) -> Result<String, NoMemory>
-    requires { IsTrue (is_answer entry.now.reply) }
-    ensures { IfOk result (λ text. string_bytes text ≡ entry_text _plant.now entry.now) }
+/// The log's line of an entry of the plant's history: the caller, the call, `=` and the reply. The group of a verdict
+/// is below the plant's count, and the reply is an answer.
+pub fn entry_text(alloc: Global, plant: &Plant, entry: &Entry) -> Result<String, NoMemory>
+    requires answer { IsTrue (is_answer entry.now.reply) }
+    requires call { IsCall plant.now entry.now.call }
+    ensures { IfOk result (λ text. string_bytes text ≡ entry_text plant.now entry.now) }
 {
     let mut text = String::new(alloc);
     push_caller(&mut text, entry.caller)?;
     text.push_str(" ")?;
-    push_call(&mut text, &entry.call)?;
+    push_call(&mut text, plant, &entry.call)?;
     text.push_str(" = ")?;
     push_reply(&mut text, &entry.reply)?;
     text.push_str("\n")?;
@@ -132,3 +209,6 @@ pub fn log_head(alloc: Global, plant: &Plant) -> Result<String, NoMemory>
     let name = plant.name();
     Ok(format!(in alloc; "LOG,1,{name}\n")?)
 }
+
+#[cfg(test)]
+mod tests;

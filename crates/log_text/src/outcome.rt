@@ -1,15 +1,24 @@
-//! The texts of outcomes and of allocations.
+//! The texts of demands, of outcomes and of allocations.
 ghost use Rattle.std.specs.Prelude.{◌≡◌, ◌++◌, IfOk, OnOk, string_bytes};
 ghost use Rattle.log_text.specs.Outcomes.{cuts_text, given_part_text, given_text, outcome_text};
-ghost use Rattle.log_text.specs.Outcomes.{thrusts_text};
+ghost use Rattle.log_text.specs.Outcomes.{thrusts_text, wrench_text};
 
 use certificate::{Cuts, Outcome};
 use dp_io::NoMemory;
 use plant_core::Allocation;
 use plant_model::plant::Plant;
 use plant_model::thrust::{Thrust, Thrusts};
+use plant_model::wrench::Wrench;
 use std::alloc::{AllocError, Global};
 use wrench_geometry::Vec3;
+
+/// Appends a demand along x, along y and in yaw.
+pub(crate) fn push_wrench(text: &mut String, demand: &Wrench) -> Result<(), AllocError>
+    ensures { OnOk result (string_bytes text.new ≡ string_bytes text.old ++ wrench_text demand.now) }
+{
+    let Wrench { x, y, n } = demand;
+    write!(text, "{x},{y},{n}")
+}
 
 /// Appends each thruster's thrust along x and along y.
 fn push_thrusts(text: &mut String, thrusts: &Thrusts) -> Result<(), AllocError>

@@ -1,11 +1,11 @@
-//! An entry, an empty history, and checks of the demo as plain text and as JSON.
+//! Entries, an empty history, and checks of the demo as plain text and as JSON.
 ghost use Rattle.std.specs.Prelude.{◌≡◌, ◌≤◌, length, pos};
 ghost use Rattle.std.specs.Prelude.{◌≤ℤ◌};
 ghost use Rattle.plant_model.specs.declared.limits.TheConstants.{MOST_THRUSTERS};
 
 use super::*;
 use arrayvec::ArrayVec;
-use certificate::{Cuts, Outcome};
+use certificate::{Cuts, Outcome, Place};
 use dp_num::Fraction;
 use plant_core::{Allocation, Call, Core, Entry, Note, Reply};
 use plant_model::demo::demo;
@@ -13,6 +13,7 @@ use plant_model::limits::MOST_ENTRIES;
 use plant_model::thrust::{Thrust, Thrusts};
 use plant_model::wrench::Wrench;
 use std::test::Fail;
+use telegram::Telegram;
 use wrench_geometry::Vec3;
 
 const NOTHING: Wrench = Wrench { x: 0, y: 0, n: 0 };
@@ -81,11 +82,65 @@ fn tells_an_entry_and_an_empty_history(rt: HostRuntime) -> Result<(), Fail> {
         entry_text(alloc, &demo(), &entry)?.as_str(),
         "W1 STRAY = NOTED\n"
     );
+    assert_eq!(rt; command_text(alloc, &demo(), &entry)?.as_str(), "");
     let core = Core::start(alloc, demo(), MOST_ENTRIES)?;
     assert_eq!(rt; log_head(alloc, core.plant())?.as_str(), "LOG,1,DEMO\n");
     assert_eq!(rt;
         report_text(alloc, &core)?.as_str(),
         "REPORT,0,0\nGROUP,GA,PENDING\nGROUP,GB,PENDING\nEND\n"
+    );
+    Ok(())
+}
+
+#[test]
+fn tells_a_verdict_by_the_name_of_its_group(rt: HostRuntime) -> Result<(), Fail> {
+    let ahead = Vec3 { x: 1, y: 0, z: 0 };
+    let entry = Entry {
+        caller: 4,
+        call: Call::Publish {
+            version: 7,
+            group: 1,
+            outcome: lost(ahead),
+        },
+        reply: Reply::Refused {
+            place: Place::Cut(3),
+        },
+    };
+    assert_eq!(rt;
+        entry_text(rt.alloc(), &demo(), &entry)?.as_str(),
+        "W2 PUBLISH,7,GB,LOST,1,1,0,0 = REFUSED,CUT,3\n"
+    );
+    Ok(())
+}
+
+#[test]
+fn tells_a_command(rt: HostRuntime) -> Result<(), Fail> {
+    let alloc = rt.alloc();
+    let entry = Entry {
+        caller: 1,
+        call: Call::Telegram(Telegram::Position {
+            moment: 1000,
+            x: -100,
+            y: 0,
+            heading: 0,
+        }),
+        reply: Reply::Commanded {
+            version: 1,
+            demand: Wrench { x: 20, y: 0, n: 0 },
+            allocation: allocation(1, 1),
+        },
+    };
+    assert_eq!(rt;
+        entry_text(alloc, &demo(), &entry)?.as_str(),
+        "C POS,1000,-100,0,0 = COMMANDED,1,20,0,0,1,1,0,1,0,0,0,0,0,0,0,0\n"
+    );
+    assert_eq!(rt;
+        command_text(alloc, &demo(), &entry)?.as_str(),
+        "$CMD,1000,1,20,0,0,1,1*54\n\
+         $THC,BOW1,0,0,1*05\n\
+         $THC,BOW2,0,0,1*06\n\
+         $THC,PORT,0,0,1*77\n\
+         $THC,STBD,0,0,1*6F\n"
     );
     Ok(())
 }

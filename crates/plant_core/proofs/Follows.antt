@@ -1,6 +1,6 @@
 -- What stays true of the state over a telegram.
 use Rattle.std.proofs.Common.{◌≡◌, ℕ, ◌+◌, ◌≤◌, nat_le, ℤ, Bool, true, false, cond, Option, None}
-use Rattle.std.proofs.Common.{Some, arith, sym}
+use Rattle.std.proofs.Common.{Some, arith, subst, sym}
 use Rattle.std.proofs.Math.Path.{refl}
 use Rattle.std.proofs.lemmas.Bool.{leb-false}
 use Rattle.std.proofs.lemmas.Option.{none-some}
@@ -31,15 +31,23 @@ use Rattle.plant_core.specs.declared.state.State.{State}
 use Rattle.plant_core.specs.declared.switch.Switching.{Switching}
 use Rattle.plant_core.specs.declared.switch.Switching.TheVariants.{Unknown, NoPiece, Same, To}
 
--- a state that may follow another before the telegram is counted: at most one version more, and it
--- may take a position where the other might
+-- a state that may follow another before the telegram is counted: at most one version more, nothing
+-- else shown, and it may take a position where the other might
 pub record Follows (before after : State) : Type 0 where
   pub events : after.events ≡ before.events
+  pub number_from : before.latest.number ≤ after.latest.number
   pub number : after.latest.number ≤ before.latest.number + 1
+  pub shown : after.shown ≡ before.shown
   pub ready : IsReady after
 
 follows-same : (state : State) → IsReady state → Follows state state
-follows-same state ready = record { events = refl; number = omega arith; ready = ready }
+follows-same state ready = record {
+  events = refl;
+  number_from = omega arith;
+  number = omega arith;
+  shown = refl;
+  ready = ready;
+}
 
 follows-unless_late : (last : Option ℕ) (state after : State) → IsReady state → Follows state after
     → Follows state (state_unless_late last state after)
@@ -53,12 +61,15 @@ follows-switching state NoPiece ready = follows-same state ready
 follows-switching state Same ready = follows-same state ready
 follows-switching state (To status) ready = record {
   events = refl;
+  number_from = omega arith;
   number = omega arith;
+  shown = refl;
   ready = record {
     demand = ready.demand;
     manual = ready.manual;
     set_point = ready.set_point;
     reached = ready.reached;
+    latest = ready.demand;
   };
 }
 
@@ -80,12 +91,15 @@ follows-mode : (state : State) (is_manual stays : Bool) → IsReady state
 follows-mode state is_manual true ready = follows-same state ready
 follows-mode state is_manual false ready = record {
   events = refl;
+  number_from = omega arith;
   number = omega arith;
+  shown = refl;
   ready = record {
     demand = ready.demand;
     manual = none-is_demand;
     set_point = ready.set_point;
     reached = tt;
+    latest = ready.latest;
   };
 }
 
@@ -104,12 +118,15 @@ follows-set_point : (state : State) (set_point : Fix) (stays : Bool) → IsReady
 follows-set_point state set_point true ready fix = follows-same state ready
 follows-set_point state set_point false ready fix = record {
   events = refl;
+  number_from = omega arith;
   number = omega arith;
+  shown = refl;
   ready = record {
     demand = ready.demand;
     manual = ready.manual;
     set_point = fix;
     reached = tt;
+    latest = ready.latest;
   };
 }
 
@@ -118,12 +135,15 @@ follows-manual : (state : State) (demand : Wrench) (taken : Bool) → IsReady st
 follows-manual state demand false ready is_demand = follows-same state ready
 follows-manual state demand true ready is_demand = record {
   events = refl;
+  number_from = omega arith;
   number = omega arith;
+  shown = refl;
   ready = record {
     demand = ready.demand;
     manual = is_demand;
     set_point = ready.set_point;
     reached = ready.reached;
+    latest = ready.latest;
   };
 }
 
@@ -136,12 +156,15 @@ follows-wind plant state moment speed angle ready =
     (record state { last_wind = Some moment; wind = wind_load plant.wind speed angle }) ready
     (record {
       events = refl;
+      number_from = omega arith;
       number = omega arith;
+      shown = refl;
       ready = record {
         demand = ready.demand;
         manual = ready.manual;
         set_point = ready.set_point;
         reached = ready.reached;
+        latest = ready.latest;
       };
     })
 
@@ -186,6 +209,7 @@ ready-sensed state moment at ready in_time =
           (after_fix state.controller moment errors) (Some moment)
           (reached-later state.controller.previous state.last_position moment in_time
           ready.reached) (omega arith);
+      latest = ready.latest;
     }
 
 number-one_of : (latest changed : Version) (moves : Bool) → changed.number ≤ latest.number + 1
@@ -193,21 +217,40 @@ number-one_of : (latest changed : Version) (moves : Bool) → changed.number ≤
 number-one_of latest changed true few = few
 number-one_of latest changed false few = omega arith
 
+number_from-one_of : (latest changed : Version) (moves : Bool) → latest.number ≤ changed.number
+    → latest.number ≤ (cond moves changed latest).number
+number_from-one_of latest changed true few = few
+number_from-one_of latest changed false few = omega arith
+
+version-one_of : (latest changed : Version) (moves : Bool) → IsDemand latest.demand
+    → IsDemand changed.demand → IsDemand (cond moves changed latest).demand
+version-one_of latest changed true stays moved = moved
+version-one_of latest changed false stays moved = stays
+
 follows-version : (plant : Parts) (before state : State) → state.events ≡ before.events
-    → state.latest ≡ before.latest → IsReady state
+    → state.latest ≡ before.latest → state.shown ≡ before.shown → IsReady state
     → Follows before (with_version_for plant state)
-follows-version plant before state events latest ready = record {
-  events = events;
-  number = rw latest (number-one_of before.latest
-      (record before.latest { number = before.latest.number + 1; demand = state.demand })
-      (are_separate state.demand before.latest.demand plant.band) (omega arith));
-  ready = record {
-    demand = ready.demand;
-    manual = ready.manual;
-    set_point = ready.set_point;
-    reached = ready.reached;
-  };
-}
+follows-version plant before state events latest shown ready =
+    let changed : Version =
+    record state.latest { number = state.latest.number + 1; demand = state.demand } in
+    let moves = are_separate state.demand state.latest.demand plant.band in
+    record {
+      events = events;
+      number_from = subst
+          (λ (version : Version). version.number ≤ (cond moves changed state.latest).number) latest
+          (number_from-one_of state.latest changed moves (omega arith));
+      number = subst
+          (λ (version : Version). (cond moves changed state.latest).number ≤ version.number + 1)
+          latest (number-one_of state.latest changed moves (omega arith));
+      shown = shown;
+      ready = record {
+        demand = ready.demand;
+        manual = ready.manual;
+        set_point = ready.set_point;
+        reached = ready.reached;
+        latest = version-one_of state.latest changed moves ready.latest ready.demand;
+      };
+    }
 
 follows-position_where : (plant : Parts) (state : State) (moment : ℕ) (at : Fix)
     (is_late : Option ℕ) → late state.last_position moment ≡ is_late → IsReady state
@@ -215,7 +258,7 @@ follows-position_where : (plant : Parts) (state : State) (moment : ℕ) (at : Fi
     (with_version_for plant (sensed state moment at)))
 follows-position_where plant state moment at (Some last) is ready = follows-same state ready
 follows-position_where plant state moment at None is ready =
-    follows-version plant state (sensed state moment at) refl refl
+    follows-version plant state (sensed state moment at) refl refl refl
     (ready-sensed state moment at ready is)
 
 follows-position : (plant : Parts) (state : State) (moment : ℕ) (at : Fix) → IsReady state

@@ -1,4 +1,6 @@
+pub mod Alarming
 pub mod Allocations
+pub mod Board
 pub mod Kept
 pub mod Laws
 pub mod Machine

@@ -1,12 +1,16 @@
 -- Positions and winds, and the demand at a position.
-use Rattle.std.specs.Prelude.{ℕ, ◌+◌, nat_le, Option, Some, None, if◌then◌else◌}
+use Rattle.std.specs.Prelude.{◌≡◌, ℕ, ◌+◌, nat_le, Option, Some, None, if◌then◌else◌}
 use Rattle.pid.specs.Control.{ControlState, after_fix, demand_of}
 use Rattle.pid.specs.Fixes.{errors_of}
 use Rattle.pid.specs.declared.position.Fix.{Fix}
 use Rattle.plant_model.specs.Versions.{Version, are_separate}
 use Rattle.plant_model.specs.declared.plant.Parts.{Parts}
 use Rattle.plant_model.specs.declared.wrench.Wrench.{Wrench}
+use Rattle.plant_model.specs.declared.status.Loss.TheVariants.{Intact}
+use Rattle.certificate.specs.Losses.{question_after}
 use Rattle.wind_axes.specs.Wind.{wind_load}
+use Rattle.plant_core.specs.Allocations.{IsRight}
+use Rattle.plant_core.specs.declared.allocation.Allocation.{Allocation}
 use Rattle.plant_core.specs.declared.call.Reply.{Reply}
 use Rattle.plant_core.specs.declared.call.Reply.TheVariants.{Commanded, Late, Taken}
 use Rattle.plant_core.specs.declared.state.State.{State}
@@ -68,12 +72,28 @@ latest_for plant state =
     then record state.latest { number = state.latest.number + 1; demand = state.demand }
     else state.latest
 
-abbrev pub commanded : Parts → State → Reply
-commanded plant state = Commanded (latest_for plant state).number state.demand
+-- the command names the version that is then the latest and the demand, and gives the greatest part
+-- of the demand that the thrusters can give as the plant stands
+pub record IsCommand (plant : Parts) (state : State) (number : ℕ) (asked : Wrench)
+    (given : Allocation) : Type 0 where
+  pub version : number ≡ (latest_for plant state).number
+  pub demand : asked ≡ state.demand
+  pub allocation : IsRight (question_after plant state.latest.status Intact state.demand) given
 
-abbrev pub position_reply : Parts → State → ℕ → Fix → Reply
-position_reply plant state moment at =
-    unless_late (late state.last_position moment) (commanded plant (sensed state moment at))
+abbrev pub IsCommanded : Parts → State → Reply → Type 0
+IsCommanded plant state (Commanded version demand allocation) =
+    IsCommand plant state version demand allocation
+IsCommanded plant state _ = ⊥
+
+-- too late, or else a command in this state
+abbrev pub IsCommandedUnlessLate : Option ℕ → Parts → State → Reply → Type 0
+IsCommandedUnlessLate (Some last) plant state reply = reply ≡ Late last
+IsCommandedUnlessLate None plant state reply = IsCommanded plant state reply
+
+-- what a position may be answered
+abbrev pub IsPositionReply : Parts → State → ℕ → Fix → Reply → Type 0
+IsPositionReply plant state moment at reply =
+    IsCommandedUnlessLate (late state.last_position moment) plant (sensed state moment at) reply
 
 abbrev pub with_version_for : Parts → State → State
 with_version_for plant state = record state { latest = latest_for plant state }

@@ -11,7 +11,7 @@ use plant_model::thrust::Thrusts;
 use plant_model::wrench::Wrench;
 
 /// The greatest part of a demand that the thrusters can give, with the thrusts that give it.
-#[derive(Debug, Drop)]
+#[derive(Clone, Debug, PartialEq, Eq, Drop)]
 pub struct Allocation {
     /// The part of the demand, from 0 to 1 and in lowest terms.
     pub fraction: Fraction,

@@ -1,10 +1,12 @@
 //! The answers to calls, and the state after them.
 ghost use Rattle.std.specs.Prelude.{◌≡◌, ◌+◌, ◌<◌, ◌^◌};
 ghost use Rattle.plant_core.specs.Kept.{IsReady};
-ghost use Rattle.plant_core.specs.Machine.{IsCall, IsReply, after_call, after_telegram, cells_of};
-ghost use Rattle.plant_core.specs.Machine.{telegram_reply};
+ghost use Rattle.plant_core.specs.Machine.{IsCall, IsReply, IsTelegramReply, ack_reply};
+ghost use Rattle.plant_core.specs.Machine.{after_call, after_telegram};
 ghost use Rattle.telegram.specs.Telegrams.{IsTelegram};
 
+use crate::allocation::Allocate;
+use crate::board::{cells, publish};
 use crate::call::{Call, Reply};
 use crate::orders::{manual, mode, set_point};
 use crate::sensing::{position, wind};
@@ -12,32 +14,34 @@ use crate::state::State;
 use crate::switch::{
     bar_switching, generator_switching, switch, thruster_switching, tie_switching,
 };
-use arrayvec::ArrayVec;
+use alarm_log::Alarms;
 use pid::Fix;
-use plant_model::board::{Cell, Cells};
 use plant_model::plant::Plant;
 use telegram::Telegram;
 
-/// The board.
-pub(crate) fn cells(plant: &Plant, state: &State) -> Cells
-    ensures { result ≡ cells_of plant.now state.now }
+/// The reply to the acknowledgement of the alarm of this number.
+fn acknowledged(alarms: &Alarms, number: u32) -> Reply
+    ensures { result ≡ ack_reply alarms.now number }
 {
-    let mut list = ArrayVec::new();
-    for _ in plant.groups().as_slice() {
-        list.push(Cell::Pending);
-    }
-    Cells {
-        latest: state.latest.number,
-        list,
+    if alarms.is_unacknowledged(number) {
+        Reply::Taken
+    } else {
+        Reply::NoSuchAlarm
     }
 }
 
 /// The answer to a telegram, and the state after it, before it is counted.
-fn answer_telegram(plant: &Plant, state: &State, telegram: &Telegram) -> (Reply, State)
+fn answer_telegram<A: Allocate>(
+    plant: &Plant,
+    state: &State,
+    alarms: &Alarms,
+    telegram: &Telegram,
+    allocator: &A,
+) -> (Reply, State)
     requires number { state.now.latest.number + 1 < 2 ^ 32 }
     requires ready { IsReady state.now }
     requires telegram { IsTelegram telegram.now }
-    ensures reply { result.0 ≡ telegram_reply plant.now state.now telegram.now }
+    ensures reply { IsTelegramReply plant.now state.now alarms.now telegram.now result.0 }
     ensures state { result.1 ≡ after_telegram plant.now state.now telegram.now }
 {
     let status = &state.latest.status;
@@ -53,7 +57,7 @@ fn answer_telegram(plant: &Plant, state: &State, telegram: &Telegram) -> (Reply,
                 y: *y,
                 heading: *heading,
             };
-            position(plant, state, *moment, at)
+            position(plant, state, *moment, at, allocator)
         }
         Telegram::Wind {
             moment,
@@ -79,7 +83,7 @@ fn answer_telegram(plant: &Plant, state: &State, telegram: &Telegram) -> (Reply,
         }
         Telegram::Mode { manual } => mode(state, *manual),
         Telegram::Manual { demand } => manual(state, *demand),
-        Telegram::Ack { .. } => (Reply::NoSuchAlarm, *state),
+        Telegram::Ack { number } => (acknowledged(alarms, *number), *state),
         Telegram::Board => (Reply::Cells(cells(plant, state)), *state),
         Telegram::Bar {
             name,
@@ -90,17 +94,24 @@ fn answer_telegram(plant: &Plant, state: &State, telegram: &Telegram) -> (Reply,
 }
 
 /// The answer to a call for which there is room, and the state after it.
-pub(crate) fn answer(plant: &Plant, state: &State, call: &Call) -> (Reply, State)
+pub(crate) fn answer<A: Allocate>(
+    plant: &Plant,
+    state: &State,
+    alarms: &Alarms,
+    call: &Call,
+    allocator: &A,
+) -> (Reply, State)
     requires number { state.now.latest.number + 1 < 2 ^ 32 }
     requires events { state.now.events + 1 < 2 ^ 32 }
     requires ready { IsReady state.now }
-    requires call { IsCall call.now }
-    ensures reply { IsReply plant.now state.now call.now result.0 }
-    ensures state { result.1 ≡ after_call plant.now state.now call.now }
+    requires call { IsCall plant.now call.now }
+    ensures reply { IsReply plant.now (record { state = state.now; alarms = alarms.now }) call.now
+        result.0 }
+    ensures state { result.1 ≡ after_call plant.now state.now call.now result.0 }
 {
     match call {
         Call::Telegram(telegram) => {
-            let (reply, mut next) = answer_telegram(plant, state, telegram);
+            let (reply, mut next) = answer_telegram(plant, state, alarms, telegram, allocator);
             next.events = state.events + 1;
             (reply, next)
         }
@@ -109,6 +120,11 @@ pub(crate) fn answer(plant: &Plant, state: &State, call: &Call) -> (Reply, State
             next.events += 1;
             (Reply::Noted, next)
         }
+        Call::Publish {
+            version,
+            group,
+            outcome,
+        } => publish(plant, state, *version, *group, outcome),
         Call::Close => {
             let mut next = *state;
             next.is_closed = true;

@@ -1,5 +1,7 @@
 //! Calls, their replies, and the entries of a history.
 
+use crate::allocation::Allocation;
+use certificate::{Outcome, Place};
 use frame::Damage;
 use plant_model::board::Cells;
 use plant_model::wrench::Wrench;
@@ -21,6 +23,12 @@ pub enum Note {
 pub enum Call {
     Telegram(Telegram),
     Note(Note),
+    /// A verdict on the loss of a group, by its place, with the number of the version that it is about.
+    Publish {
+        version: u32,
+        group: u32,
+        outcome: Outcome,
+    },
     /// The end of a session. Nothing is answered after it.
     Close,
 }
@@ -38,10 +46,16 @@ pub enum Reply {
     UnknownName,
     /// The thruster has no piece of that number.
     NoPiece,
-    /// The number of the version that is now the latest, and what is asked of the thrusters.
-    Commanded { version: u32, demand: Wrench },
+    /// The number of the version that is now the latest, what is asked of the thrusters, and what they are to give.
+    Commanded {
+        version: u32,
+        demand: Wrench,
+        allocation: Allocation,
+    },
     /// The moment isn't after that of the last position, or of the last wind, that was taken.
-    Late { last: u32 },
+    Late {
+        last: u32,
+    },
     /// The mode that stands doesn't take such a telegram.
     WrongMode,
     /// The note was taken down.
@@ -50,6 +64,22 @@ pub enum Reply {
     NoSuchAlarm,
     /// The board.
     Cells(Cells),
+    /// The verdict is now the one that the board shows of its group.
+    Shown,
+    /// The verdict is about a version before the latest, which has this number.
+    Superseded {
+        latest: u32,
+    },
+    /// There is no such version yet. The latest has this number.
+    Unknown {
+        latest: u32,
+    },
+    /// The board shows a verdict of the latest version for the group already.
+    Already,
+    /// The verdict isn't valid for the latest version and the loss of the group, first at this place.
+    Refused {
+        place: Place,
+    },
     /// As many telegrams and notes were answered as the limit says. It has no entry.
     JournalFull,
     /// A session was ended. It has no entry.

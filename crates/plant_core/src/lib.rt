@@ -2,8 +2,10 @@
 //! becomes the history's next entry.
 #![tactic(auto)]
 
+mod alarming;
 mod allocation;
 mod answer;
+mod board;
 mod call;
 mod machine;
 mod orders;
@@ -13,6 +15,9 @@ mod switch;
 
 pub use allocation::{Allocate, Allocation};
 pub use call::{Call, Entry, Note, Reply};
-pub use machine::{Core, NoMemory, legal_by_steps};
+pub use certificate::{Outcome, Place};
+pub use machine::{
+    Core, NoMemory, every_interleaving_is_legal, legal_by_steps, shown_verdicts_are_valid,
+};
 pub use plant_model::board::{Cell, Cells};
-pub use state::State;
+pub use state::{State, Verdict};

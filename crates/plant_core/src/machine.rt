@@ -1,16 +1,22 @@
 //! The machine with its history.
 ghost use Rattle.std.specs.Prelude.{◌≡◌, ◌≤◌, [], IfOk, OnErr};
-ghost use Rattle.plant_core.specs.Laws.{EmptyIsLegal, LegalBySteps, StateBySteps};
-ghost use Rattle.plant_core.specs.Machine.{IsAllowed, IsCall, IsLegal, after_reply, cells_of};
-ghost use Rattle.plant_core.specs.Machine.{is_full, opening, state_of};
+ghost use Rattle.plant_core.specs.Board.{cells_of};
+ghost use Rattle.plant_core.specs.Laws.{CellsAreLastShown, EmptyIsLegal, EveryInterleavingIsLegal};
+ghost use Rattle.plant_core.specs.Laws.{LegalBySteps, ShownVerdictsAreValid, StandBySteps};
+ghost use Rattle.plant_core.specs.Machine.{IsAllowed, IsCall, IsLegal, after_reply, is_full};
+ghost use Rattle.plant_core.specs.Machine.{opening, stand_of, state_of};
 
-use crate::answer::{answer, cells};
+use crate::alarming::{alarm, notice_of};
+use crate::allocation::Allocate;
+use crate::answer::answer;
+use crate::board::cells;
 use crate::call::{Call, Entry, Reply};
 use crate::state::State;
+use alarm_log::Alarms;
 pub use dp_io::NoMemory;
 use pid::{Controller, Fix};
 use plant_model::board::Cells;
-use plant_model::limits::MOST_ENTRIES;
+use plant_model::limits::{MOST_ENTRIES, MOST_GROUPS};
 use plant_model::plant::Plant;
 use plant_model::status::Version;
 use plant_model::wrench::{Load, Wrench};
@@ -24,6 +30,7 @@ pub struct Core {
     plant: Plant,
     limit: u32,
     state: State,
+    alarms: Alarms,
     history: Vec<Entry>,
 }
 
@@ -40,7 +47,8 @@ impl Model for Core {
       history = core.history.items;
     } };
 
-    ghost invariant = { λ core. IsKept core.plant core.limit core.state core.history.items };
+    ghost invariant = { λ core.
+        IsKept core.plant core.limit core.state core.alarms core.history.items };
 }
 
 /// What the plant is at its opening.
@@ -62,6 +70,7 @@ fn opening(plant: &Plant) -> State
         last_position: None,
         last_wind: None,
         wind: Load::default(),
+        shown: [None; MOST_GROUPS],
         events: 0,
         is_closed: false,
     }
@@ -71,12 +80,12 @@ fn opening(plant: &Plant) -> State
 fn is_full(limit: u32, state: &State, call: &Call) -> bool
     ensures { result ≡ is_full limit state.now call.now }
 {
-    !matches!(call, Call::Close) && limit <= state.events
+    matches!(call, Call::Telegram(_) | Call::Note(_)) && limit <= state.events
 }
 
 impl Core {
-    /// The plant at its opening, in automatic mode, with nothing asked of the thrusters and no call answered. The
-    /// limit of telegrams and notes is at most [`MOST_ENTRIES`].
+    /// The plant at its opening, in automatic mode, with nothing asked of the thrusters, nothing shown of any group, no
+    /// alarm raised and no call answered. The limit of telegrams and notes is at most [`MOST_ENTRIES`].
     pub fn start(alloc: Global, plant: Plant, limit: u32) -> Result<Core, NoMemory>
         requires { limit ≤ MOST_ENTRIES }
         ensures { IfOk result
@@ -87,17 +96,24 @@ impl Core {
             plant,
             limit,
             state,
+            alarms: Alarms::new(alloc)?,
             history: Vec::new(alloc),
         })
     }
 
-    /// Answers a call, whose telegram is within its ranges. The call becomes the last entry of the history, but where
-    /// the reply is `Closed`, since a session was ended, or `JournalFull`, since as many telegrams and notes as the
-    /// limit were answered. These two, and `NoMemory`, change nothing.
-    pub fn apply(&mut self, caller: u32, call: Call) -> Result<Reply, NoMemory>
-        requires { IsCall call }
+    /// Answers a call, whose telegram is within its ranges, or whose group is below the plant's count. A position is
+    /// answered with what the allocator gives. The call becomes the last entry of the history, but where the reply is
+    /// `Closed`, since a session was ended, or `JournalFull`, since as many telegrams and notes as the limit were
+    /// answered. These two, and `NoMemory`, change nothing.
+    pub fn apply<A: Allocate>(
+        &mut self,
+        caller: u32,
+        call: Call,
+        allocator: &A,
+    ) -> Result<Reply, NoMemory>
+        requires { IsCall self.old.plant call }
         ensures allowed { IfOk result
-            (λ reply. IsAllowed self.old.plant self.old.limit (state_of self.old) call reply) }
+            (λ reply. IsAllowed self.old.plant self.old.limit (stand_of self.old) call reply) }
         ensures history { IfOk result (λ reply. self.new
             ≡ after_reply self.old (record { caller = caller; call = call; reply = reply })) }
         ensures kept { OnErr result (self.new ≡ self.old) }
@@ -108,13 +124,15 @@ impl Core {
         if is_full(self.limit, &self.state, &call) {
             return Ok(Reply::JournalFull);
         }
-        let (reply, next) = answer(&self.plant, &self.state, &call);
+        let (reply, next) = answer(&self.plant, &self.state, &self.alarms, &call, allocator);
+        let notice = notice_of(&call, &reply);
         let entry = Entry {
             caller,
             call,
             reply: reply.clone()?,
         };
         self.history.push(entry)?;
+        alarm(&mut self.alarms, &self.state, &next, notice);
         self.state = next;
         Ok(reply)
     }
@@ -146,6 +164,13 @@ impl Core {
         cells(&self.plant, &self.state)
     }
 
+    /// The alarms.
+    pub fn alarms(&self) -> &Alarms
+        ensures { result.now ≡ (stand_of self.now).alarms }
+    {
+        &self.alarms
+    }
+
     /// The answered calls, in order.
     pub fn history(&self) -> &[Entry]
         ensures entries { result.now ≡ self.now.history }
@@ -156,13 +181,23 @@ impl Core {
 }
 
 /// A history with no entry is legal. One with a last entry is legal exactly where the entries before it are legal,
-/// its call is within its ranges, and its reply is allowed in the state after them and has an entry. The state after
-/// it is the next one after that state.
+/// its call is within its ranges, and its reply is allowed as the machine stands after them and has an entry. How the
+/// machine stands after it follows from how it stood before.
 pub fn legal_by_steps()
     ensures empty { EmptyIsLegal }
     ensures steps { LegalBySteps }
-    ensures states { StateBySteps }
+    ensures stands { StandBySteps }
 {}
 
-#[cfg(test)]
-mod tests;
+/// Whatever calls of whatever callers are applied to a core, one after another, the history has those that were
+/// answered, in that order, and is legal.
+pub fn every_interleaving_is_legal()
+    ensures { EveryInterleavingIsLegal }
+{}
+
+/// In every legal history each verdict that was shown is about the version that was the latest then, and valid for it
+/// and for the loss of its group. The board shows of each group the last one that was shown.
+pub fn shown_verdicts_are_valid()
+    ensures valid { ShownVerdictsAreValid }
+    ensures cells { CellsAreLastShown }
+{}

@@ -3,10 +3,11 @@ ghost use Rattle.std.specs.Prelude.{◌≡◌, ◌+◌, ◌<◌, ◌≤◌, ◌^
 ghost use Rattle.pid.specs.Fixes.{IsInRange};
 ghost use Rattle.plant_model.specs.Versions.{IsDemand};
 ghost use Rattle.plant_core.specs.Kept.{IsReady};
-ghost use Rattle.plant_core.specs.Sensing.{after_position, after_wind, late, latest_for};
-ghost use Rattle.plant_core.specs.Sensing.{position_reply, sensed, wind_reply};
+ghost use Rattle.plant_core.specs.Sensing.{IsPositionReply, after_position, after_wind, late};
+ghost use Rattle.plant_core.specs.Sensing.{latest_for, sensed, wind_reply};
 ghost use Rattle.telegram.specs.Telegrams.{IsWind};
 
+use crate::allocation::Allocate;
 use crate::call::Reply;
 use crate::state::State;
 use pid::{Fix, errors};
@@ -84,11 +85,17 @@ fn latest_for(plant: &Plant, state: &State) -> Version
 }
 
 /// The reply to a position of this moment, and the state after it.
-pub(crate) fn position(plant: &Plant, state: &State, moment: u32, at: Fix) -> (Reply, State)
+pub(crate) fn position<A: Allocate>(
+    plant: &Plant,
+    state: &State,
+    moment: u32,
+    at: Fix,
+    allocator: &A,
+) -> (Reply, State)
     requires number { state.now.latest.number + 1 < 2 ^ 32 }
     requires ready { IsReady state.now }
     requires at { IsInRange at }
-    ensures reply { result.0 ≡ position_reply plant.now state.now moment at }
+    ensures reply { IsPositionReply plant.now state.now moment at result.0 }
     ensures state { result.1 ≡ after_position plant.now state.now moment at }
 {
     if let Some(last) = late(state.last_position, moment) {
@@ -99,6 +106,7 @@ pub(crate) fn position(plant: &Plant, state: &State, moment: u32, at: Fix) -> (R
     let reply = Reply::Commanded {
         version: latest.number,
         demand: next.demand,
+        allocation: allocator.allocate(plant, &latest.status, next.demand),
     };
     (reply, State { latest, ..next })
 }

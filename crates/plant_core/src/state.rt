@@ -1,10 +1,18 @@
 //! What the machine is in between two calls.
 
 use pid::{Controller, Fix};
+use plant_model::limits::MOST_GROUPS;
 use plant_model::status::Version;
 use plant_model::wrench::{Load, Wrench};
 
-/// What the machine is in between two calls.
+/// A verdict that was shown: the version that it is about, and whether the demand holds after the loss.
+#[derive(Clone, Copy, Debug, PartialEq, Eq)]
+pub struct Verdict {
+    pub version: u32,
+    pub holds: bool,
+}
+
+/// What the machine is in between two calls, but for its alarms.
 #[derive(Clone, Copy, Debug, PartialEq, Eq)]
 pub struct State {
     /// The latest version. Its status is how the plant stands.
@@ -24,6 +32,8 @@ pub struct State {
     pub last_wind: Option<u32>,
     /// What that wind does to the vessel; nothing before the first.
     pub wind: Load,
+    /// The verdict that was last shown of each group's loss.
+    pub shown: [Option<Verdict>; MOST_GROUPS],
     /// How many telegrams and notes were answered.
     pub events: u32,
     /// Whether a session was ended.

@@ -12,7 +12,8 @@ returns-in_err-send_lines-clause-cut g c = λ e.
       right = c.findings_of-findings.ensures;
       is = c.as_bytes.ensures.value ∙ c.in_ok-text.ensures;
     } in
-    (text, told, c.in_err-send_lines.ensures.part)
+    let part = c.in_err-send_lines.ensures.part in
+    (text, told, (part.0, part.2))
 
 pub returns-clause-found : goal.returns-clause-found
 returns-clause-found g c =

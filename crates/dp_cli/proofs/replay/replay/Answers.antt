@@ -1,13 +1,13 @@
 -- What each end of a session says: faulty words, no plant, a session that ended, and one that was
 -- stopped.
-use Rattle.std.proofs.Common.{◌≡◌, ap, sym, length, Ok, Err}
+use Rattle.std.proofs.Common.{◌≡◌, ap, subst, sym, length, Ok, Err}
 use Rattle.std.proofs.Math.Path.{refl}
 use Rattle.std.specs.Prelude.{map, string_bytes}
 use Rattle.dp_words.specs.Shown.{shown}
+use Rattle.dp_words.specs.declared.status.RunStatus.{RunStatus}
 use Rattle.dp_words.specs.declared.status.RunStatus.TheVariants.{WriteFault}
 use Rattle.dp_cli.specs.Plants.{WordsSay}
-use Rattle.dp_cli.specs.Sessions.{WritesPart}
-use Rattle.dp_cli.specs.declared.session.Ending.TheVariants.{Full}
+use Rattle.dp_cli.specs.Sessions.{WritesPart, WritesWhole}
 use Rattle.dp_cli.proofs.Endings.{cause-ended, cause-no_plant, cause-stopped, cause-usage}
 use Rattle.dp_cli.proofs.Endings.{complete-ended, complete-no_plant, complete-stopped}
 use Rattle.dp_cli.proofs.Endings.{complete-usage, history-ended, history-no_plant}
@@ -81,16 +81,23 @@ returns-in-Ok-session-clause-session g c =
     let plant = c.in-Ok-plant_from.plant in
     let says : WordsSay words first (Ok plant) =
     record { word = word; named = named; says = c.in-Ok-plant_from.ensures.finds.found } in
-    let ending = c.in-Ok-session.ending in
+    let ended = c.in-Ok-session.ended in
+    let ending = ended.ending in
+    let lost = ended.is_lost in
     let status = c.status.result in
     let is = c.status.ensures in
-    let whole = c.in-Ok-session.ensures.ended in
-    let full = λ (is_full : ending ≡ Full). c.in-Ok-session.ensures.full (ap Ok is_full) in
+    let no_write = c.in-Ok-session.ensures.whole in
+    let full = c.in-Ok-session.ensures.full in
+    let whole : WritesWhole plant ending status source out =
+    subst (λ (s : RunStatus). WritesWhole plant ending s source out) (sym is)
+    c.in-Ok-session.ensures.ended in
     record {
-      history = history-ended words status ending plant first source out says is whole;
-      causes = cause-ended words c.in-Ok.form status ending plant first source out is_form says is
-          whole full;
-      complete = complete-ended words status ending plant first source out is whole full;
+      history = history-ended words status ending lost plant first source out says is no_write
+          whole;
+      causes = cause-ended words c.in-Ok.form status ending lost plant first source out is_form
+          says is no_write whole full;
+      complete = complete-ended words status ending lost plant first source out is no_write whole
+          full;
     }
 
 pub returns-in-Ok-session-clause-unread : goal.returns-in-Ok-session-clause-unread

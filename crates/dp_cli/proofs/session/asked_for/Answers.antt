@@ -4,5 +4,5 @@ use Rattle.telegram.proofs.Exact.{text-of_telegram}
 use Rattle.dp_cli.proofs.session.asked_for.Goals as goal
 
 pub returns-in-Ok-clause-within : goal.returns-in-Ok-clause-within
-returns-in-Ok-clause-within c =
+returns-in-Ok-clause-within c = λ plant.
     (text-of_telegram c.in-Body.body c.in-Ok.telegram (sym c.in-Ok.ensures)).1

@@ -1,63 +1,115 @@
--- The session's history answers the stream's items and then closes, and what was written is its log
--- and report.
-use Rattle.std.proofs.Common.{ap, subst, ◌∙◌}
+-- The session's history stands for its stream, and what was written is its frames, log and report.
+use Rattle.std.proofs.Common.{◌≡◌, ◌≢◌, ap, inl, rules, subst, ◌∙◌}
+use Rattle.std.proofs.Math.Path.{refl}
 use Rattle.std.proofs.lemmas.Result.{err_from_is_err_and}
-use Rattle.plant_core.specs.Machine.{CoreView}
 use Rattle.plant_model.specs.declared.plant.Parts.{Parts}
+use Rattle.plant_core.specs.Machine.{Stand}
 use Rattle.dp_words.specs.Shown.{Took, TookPart, shown}
-use Rattle.dp_cli.specs.Sessions.{written}
-use Rattle.dp_cli.proofs.Closed.{closes, few-events, session-plant, session-stands}
+use Rattle.dp_cli.specs.declared.session.Ending.TheVariants.{Write}
+use Rattle.dp_cli.specs.Sessions.{has_lost_cell, status_of, told}
+use Rattle.dp_cli.specs.Steps.{TakesStream}
+use Rattle.dp_cli.proofs.Closed.{IsClosed, closed-session, new-plant, session-part, session-stopped}
+use Rattle.dp_cli.proofs.Closed.{session-whole}
 use Rattle.dp_cli.proofs.session.session.Goals as goal
+
+pub returns-then-eq-clause-cut : goal.returns-then-eq-clause-cut
+returns-then-eq-clause-cut g c = λ fault.
+    let source =
+    shown g.S.Source.left g.S.Source.faults c.args.source.now c.take_stream.new.source in
+    let out = shown g.O.Sink.taken g.O.Sink.faults c.args.out.now c.take_stream.new.out in
+    let old = c.take_stream.new.core in
+    let new = c.apply.new.self in
+    let reply = c.in_ok-apply.field-0 in
+    let taken = c.in_ok-ending.ensures.taken in
+    let is : IsClosed c.args.plant old new reply = closed-session c.args.plant c.in_ok-core.core
+    c.publish_all.new.core old new _ _ c.core-2.inside.state reply c.in_ok-core.ensures
+    c.publish_all.ensures.plant c.publish_all.ensures.limit c.take_stream.ensures.plant
+    c.take_stream.ensures.limit c.core-2.view_is
+    (ap (λ (s : Stand). s.state) c.core-2.invariant.reached)
+    c.core-2.invariant.counted taken.running.is_open c.in_ok-apply.ensures.allowed
+    c.in_ok-apply.ensures.history c.core-3.view_is c.core-3.invariant.legal in
+    let is_write : c.in_ok-ending.ending ≡ Write = search rules in
+    session-stopped c.args.plant source out old new reply
+    (subst (λ ending. TakesStream ending source out old) is_write taken) is
+
+pub returns-then-eq-clause-writing : goal.returns-then-eq-clause-writing
+returns-then-eq-clause-writing g c =
+    let source =
+    shown g.S.Source.left g.S.Source.faults c.args.source.now c.take_stream.new.source in
+    let out = shown g.O.Sink.taken g.O.Sink.faults c.args.out.now c.take_stream.new.out in
+    let old = c.take_stream.new.core in
+    let new = c.apply.new.self in
+    let reply = c.in_ok-apply.field-0 in
+    let taken = c.in_ok-ending.ensures.taken in
+    let is : IsClosed c.args.plant old new reply = closed-session c.args.plant c.in_ok-core.core
+    c.publish_all.new.core old new _ _ c.core-2.inside.state reply c.in_ok-core.ensures
+    c.publish_all.ensures.plant c.publish_all.ensures.limit c.take_stream.ensures.plant
+    c.take_stream.ensures.limit c.core-2.view_is
+    (ap (λ (s : Stand). s.state) c.core-2.invariant.reached)
+    c.core-2.invariant.counted taken.running.is_open c.in_ok-apply.ensures.allowed
+    c.in_ok-apply.ensures.history c.core-3.view_is c.core-3.invariant.legal in
+    let is_write : c.in_ok-ending.ending ≡ Write = search rules in
+    let written = subst (λ ending. TakesStream ending source out old) is_write taken in
+    record {
+      failed = λ fault. written.ends is.few;
+      errors = inl refl;
+      counted = c.take_stream.ensures.written;
+    }
 
 pub returns-in_err-write_history-clause-cut : goal.returns-in_err-write_history-clause-cut
 returns-in_err-write_history-clause-cut g c = λ fault.
     let source =
     shown g.S.Source.left g.S.Source.faults c.args.source.now c.take_stream.new.source in
-    let out = shown g.O.Sink.taken g.O.Sink.faults c.args.out.now c.write_history.new.out in
+    let out = shown g.O.Sink.taken g.O.Sink.faults c.args.out.now c.take_stream.new.out in
     let old = c.take_stream.new.core in
     let new = c.apply.new.self in
-    let taken = c.in_ok-ending.ensures.answered in
-    let closed = closes old new taken.answered c.in_ok-apply.field-0 taken.answers
-    c.in_ok-apply.ensures.allowed c.in_ok-apply.ensures.history in
-    let limit = c.take_stream.ensures.limit ∙ ap (λ (m : CoreView). m.limit) c.in_ok-core.ensures in
-    let few = few-events _ old c.core.inside.state taken.answered c.core.view_is
-    c.core.invariant.reached c.core.invariant.counted limit taken.answers in
-    let plant = session-plant c.args.plant c.in_ok-core.core old new c.in_ok-apply.field-0
-    c.in_ok-core.ensures c.take_stream.ensures.plant closed in
+    let reply = c.in_ok-apply.field-0 in
+    let taken = c.in_ok-ending.ensures.taken in
+    let is : IsClosed c.args.plant old new reply = closed-session c.args.plant c.in_ok-core.core
+    c.publish_all.new.core old new _ _ c.core-2.inside.state reply c.in_ok-core.ensures
+    c.publish_all.ensures.plant c.publish_all.ensures.limit c.take_stream.ensures.plant
+    c.take_stream.ensures.limit c.core-2.view_is
+    (ap (λ (s : Stand). s.state) c.core-2.invariant.reached)
+    c.core-2.invariant.counted taken.running.is_open c.in_ok-apply.ensures.allowed
+    c.in_ok-apply.ensures.history c.core-3.view_is c.core-3.invariant.legal in
+    let later =
+    shown g.O.Sink.taken g.O.Sink.faults c.take_stream.new.out c.write_history.new.out in
+    let whole = shown g.O.Sink.taken g.O.Sink.faults c.args.out.now c.write_history.new.out in
+    let no_write : c.in_ok-ending.ending ≢ Write = search rules in
+    let plant = new-plant c.args.plant old new reply is in
     let failed = err_from_is_err_and c.from_residual-in_err-write_history.result
     c.from_residual-in_err-write_history.ensures.1 in
     let part = c.in_err-write_history.ensures.part (cc (failed.1, failed.2, fault)) in
-    record {
-      ending = c.in_ok-ending.ending;
-      history = new.history;
-      stands = session-stands c.args.plant source c.in_ok-ending.ending c.in_ok-core.core
-          old _ new c.in_ok-apply.field-0
-          c.in_ok-core.ensures c.take_stream.ensures.plant c.take_stream.ensures.limit
-          taken few closed c.core-2.view_is c.core-2.invariant.legal;
-      took = subst (λ (p : Parts). TookPart out (written p new.history)) plant part;
-    }
+    session-part c.args.plant source out later whole c.in_ok-ending.ending old new reply no_write
+    taken is refl refl refl
+    (subst (λ (p : Parts). TookPart later (told p new.history)) plant part)
 
 pub returns-clause-ended : goal.returns-clause-ended
 returns-clause-ended g c =
     let source =
     shown g.S.Source.left g.S.Source.faults c.args.source.now c.take_stream.new.source in
-    let out = shown g.O.Sink.taken g.O.Sink.faults c.args.out.now c.write_history.new.out in
+    let out = shown g.O.Sink.taken g.O.Sink.faults c.args.out.now c.take_stream.new.out in
     let old = c.take_stream.new.core in
     let new = c.apply.new.self in
-    let taken = c.in_ok-ending.ensures.answered in
-    let closed = closes old new taken.answered c.in_ok-apply.field-0 taken.answers
-    c.in_ok-apply.ensures.allowed c.in_ok-apply.ensures.history in
-    let limit = c.take_stream.ensures.limit ∙ ap (λ (m : CoreView). m.limit) c.in_ok-core.ensures in
-    let few = few-events _ old c.core.inside.state taken.answered c.core.view_is
-    c.core.invariant.reached c.core.invariant.counted limit taken.answers in
-    let plant = session-plant c.args.plant c.in_ok-core.core old new c.in_ok-apply.field-0
-    c.in_ok-core.ensures c.take_stream.ensures.plant closed in
-    record {
-      history = new.history;
-      stands = session-stands c.args.plant source c.in_ok-ending.ending c.in_ok-core.core
-          old _ new c.in_ok-apply.field-0
-          c.in_ok-core.ensures c.take_stream.ensures.plant c.take_stream.ensures.limit
-          taken few closed c.core-2.view_is c.core-2.invariant.legal;
-      took = subst (λ (p : Parts). Took out (written p new.history)) plant
-          c.in_ok-write_history.ensures.whole;
-    }
+    let reply = c.in_ok-apply.field-0 in
+    let taken = c.in_ok-ending.ensures.taken in
+    let is : IsClosed c.args.plant old new reply = closed-session c.args.plant c.in_ok-core.core
+    c.publish_all.new.core old new _ _ c.core-2.inside.state reply c.in_ok-core.ensures
+    c.publish_all.ensures.plant c.publish_all.ensures.limit c.take_stream.ensures.plant
+    c.take_stream.ensures.limit c.core-2.view_is
+    (ap (λ (s : Stand). s.state) c.core-2.invariant.reached)
+    c.core-2.invariant.counted taken.running.is_open c.in_ok-apply.ensures.allowed
+    c.in_ok-apply.ensures.history c.core-3.view_is c.core-3.invariant.legal in
+    let later =
+    shown g.O.Sink.taken g.O.Sink.faults c.take_stream.new.out c.write_history.new.out in
+    let whole = shown g.O.Sink.taken g.O.Sink.faults c.args.out.now c.write_history.new.out in
+    let no_write : c.in_ok-ending.ending ≢ Write = search rules in
+    let plant = new-plant c.args.plant old new reply is in
+    let lost : c.has_lost_cell-is_lost.result ≡ has_lost_cell c.args.plant new.history =
+    c.has_lost_cell-is_lost.ensures
+    ∙ ap (λ (p : Parts). has_lost_cell p new.history) plant in
+    session-whole c.args.plant source out later whole c.in_ok-ending.ending _ old new reply no_write
+    taken is refl refl refl
+    (subst (λ (p : Parts). Took later (told p new.history)) plant
+    c.in_ok-write_history.ensures.whole)
+    (ap (status_of c.in_ok-ending.ending) lost)

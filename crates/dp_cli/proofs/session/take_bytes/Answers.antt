@@ -1,65 +1,92 @@
--- One more byte of the stream, and the item that it may complete, which may have no room.
-use Rattle.std.proofs.Common.{◌≡◌, Bool, true, false, List, [], ◌∷◌, ◌++◌, take, sym, rules}
+-- One more byte of the stream, and the item that it may complete, at which the stream may end.
+use Rattle.std.proofs.Common.{◌≡◌, List, ℕ, [], ◌∷◌, ◌++◌, Option, take, sym, ◌∙◌, ap, arith}
 use Rattle.std.proofs.Common.{subst}
-use Rattle.std.proofs.lemmas.List.{append-nil}
-use Rattle.frame.specs.Frames.{items}
+use Rattle.std.proofs.lemmas.List.{append-nil, take_all}
+use Rattle.frame.specs.Frames.{StandsFor, items}
 use Rattle.frame.specs.declared.item.Item.{Item}
 use Rattle.plant_core.specs.Machine.{CoreView}
-use Rattle.dp_cli.specs.Sessions.{AnswersItems}
-use Rattle.dp_cli.specs.Steps.{TakesItem}
-use Rattle.dp_cli.proofs.Answered.{answered-more, false_from_not, filled-byte}
-use Rattle.dp_cli.proofs.Given.{true_from_not}
+use Rattle.dp_words.specs.Shown.{shown}
+use Rattle.dp_cli.specs.Steps.{HasAnswered, IsRunning, TakesItem}
+use Rattle.dp_cli.specs.declared.session.Ending.{Ending}
+use Rattle.dp_cli.proofs.Taken.{has-more, items-byte, none-where, stops-where, taken-more}
 use Rattle.dp_cli.proofs.session.take_bytes.Goals as goal
-use Rattle.dp_cli.proofs.session.take_bytes.Goals.{in-Some+in_ok-take_item+else-not-branch}
+use Rattle.dp_cli.proofs.session.take_bytes.Goals.{in-Some+in_ok-ending+else-is_some}
 use Rattle.dp_cli.proofs.session.take_bytes.Goals.{in_default}
 
-pub returns-then-not-branch-clause-answered : goal.returns-then-not-branch-clause-answered
-returns-then-not-branch-clause-answered c = λ fed stands answers.
+pub returns-then-is_some-clause-taken : goal.returns-then-is_some-clause-taken
+returns-then-is_some-clause-taken g c = λ start fed stands has.
     let i = c.loop-byte.byte-index in
     let bytes = c.args.bytes.now in
-    let before = c.loop-byte.invariant.answered fed stands answers in
-    let no : c.in_ok-take_item.field-0 ≡ false =
-    first_of (search rules, search (rules, false_from_not)) in
-    let full = subst (λ (b : Bool).
-    TakesItem b c.loop-byte.core c.take_item.new.core c.in-Some.item) no
-    c.in_ok-take_item.ensures.answered in
-    filled-byte c.loop-byte.core c.take_item.new.core fed bytes i c.in-Some.item
-    c.loop-byte-test.true before.1 (c.in-Some.ensures.items (fed ++ take i bytes) before.0) full
+    let before = c.loop-byte.invariant.taken start fed stands has in
+    let all = fed ++ take i bytes in
+    let out = shown g.S.Sink.taken g.S.Sink.faults c.loop-byte.out c.take_item.new.out in
+    stops-where c.in_ok-ending.ending start c.loop-byte.core c.take_item.new.core c.feed.new.self
+    (items all) c.in-Some.item out (fed ++ bytes) (sym c.is_some.ensures ∙ c.if-is_some.true) before.1
+    c.in_ok-ending.ensures.taken
+    (items-byte fed bytes i c.in-Some.item c.loop-byte-test.true
+    (c.in-Some.ensures.items all before.0))
 
 pub loop-byte-preserved : goal.loop-byte-preserved
-loop-byte-preserved c =
+loop-byte-preserved g c =
     let i = c.loop-byte.byte-index in
     let bytes = c.args.bytes.now in
+    let old = c.loop-byte.core in
     elim c.match-feed.branch [
-      | in-Some+in_ok-take_item+else-not-branch w ↦ record {
-        plant = search rules;
-        limit = search rules;
-        answered = λ fed stands answers.
-            let before = c.loop-byte.invariant.answered fed stands answers in
-            let all = fed ++ take i bytes in
-            let yes : w.in_ok-take_item.field-0 ≡ true =
-            first_of (search rules, search (rules, true_from_not)) in
-            let taken = subst (λ (b : Bool).
-            TakesItem b c.loop-byte.core w.take_item.new.core w.in-Some.item) yes
-            w.in_ok-take_item.ensures.answered in
-            answered-more c.feed.new.self c.match-feed.core fed bytes i
-            (w.in-Some.item ∷ []) c.loop-byte-test.true
-            (c.feed.ensures.stands all before.0) (w.in-Some.ensures.items all before.0)
-            (subst (λ (m : CoreView). AnswersItems m.history (items all ++ w.in-Some.item ∷ []))
-            (sym w.core-is) (taken (items all) before.1));
-      }
+      | in-Some+in_ok-ending+else-is_some w ↦
+          let new = w.take_item.new.core in
+          let item = w.in-Some.item in
+          let out = shown g.S.Sink.taken g.S.Sink.faults c.loop-byte.out w.take_item.new.out in
+          let none = none-where w.in_ok-ending.ending (sym w.is_some.ensures ∙ w.if-is_some.false) in
+          let takes = subst (λ (e : Option Ending). TakesItem e old new item out) none
+          w.in_ok-ending.ensures.taken in
+          record {
+            running = subst IsRunning (sym w.core-is) takes.1.running;
+            plant = ap (λ (m : CoreView). m.plant) w.core-is ∙ w.take_item.ensures.plant
+                ∙ c.loop-byte.invariant.plant;
+            limit = ap (λ (m : CoreView). m.limit) w.core-is ∙ w.take_item.ensures.limit
+                ∙ c.loop-byte.invariant.limit;
+            counted = omega (
+              arith,
+              c.loop-byte.invariant.counted,
+              w.take_item.ensures.counted,
+              ap g.S.Sink.faults w.out-is,
+            );
+            taken = λ start fed stands has.
+                let before = c.loop-byte.invariant.taken start fed stands has in
+                let all = fed ++ take i bytes in
+                let more = has-more start old new (items all) item out before.1 takes in
+                let shown_more : HasAnswered start (g.S.Sink.taken c.match-feed.out) c.match-feed.core
+                (items all ++ item ∷ []) =
+                rw (w.out-is, w.core-is) more in
+                taken-more start (g.S.Sink.taken c.match-feed.out) c.match-feed.core c.feed.new.self
+                fed bytes i (item ∷ []) c.loop-byte-test.true (c.feed.ensures.stands all before.0)
+                (w.in-Some.ensures.items all before.0) shown_more;
+          }
       | in_default w ↦ record {
-        plant = search rules;
-        limit = search rules;
-        answered = λ fed stands answers.
-            let before = c.loop-byte.invariant.answered fed stands answers in
+        running = subst IsRunning (sym w.core-is) c.loop-byte.invariant.running;
+        plant = ap (λ (m : CoreView). m.plant) w.core-is ∙ c.loop-byte.invariant.plant;
+        limit = ap (λ (m : CoreView). m.limit) w.core-is ∙ c.loop-byte.invariant.limit;
+        counted = omega (arith, c.loop-byte.invariant.counted, ap g.S.Sink.faults w.out-is);
+        taken = λ start fed stands has.
+            let before = c.loop-byte.invariant.taken start fed stands has in
             let all = fed ++ take i bytes in
-            let same : AnswersItems c.match-feed.core.history (items all) =
-            subst (λ (m : CoreView). AnswersItems m.history (items all)) (sym w.core-is) before.1 in
-            answered-more c.feed.new.self c.match-feed.core fed bytes i []
-            c.loop-byte-test.true
-            (c.feed.ensures.stands all before.0) (w.in_default.ensures.items all before.0)
-            (subst (λ (xs : List Item). AnswersItems c.match-feed.core.history xs)
-            (sym (append-nil (items all))) same);
+            let same : HasAnswered start (g.S.Sink.taken c.match-feed.out) c.match-feed.core
+            (items all) = rw (w.out-is, w.core-is) before.1 in
+            taken-more start (g.S.Sink.taken c.match-feed.out) c.match-feed.core c.feed.new.self fed
+            bytes i [] c.loop-byte-test.true (c.feed.ensures.stands all before.0)
+            (w.in_default.ensures.items all before.0)
+            (subst (λ (xs : List Item). HasAnswered start (g.S.Sink.taken c.match-feed.out)
+            c.match-feed.core xs) (sym (append-nil (items all))) same);
       }
     ]
+
+pub returns-clause-taken : goal.returns-clause-taken
+returns-clause-taken g c = λ start fed stands has.
+    let i = c.loop-byte.byte-index in
+    let bytes : List ℕ = c.args.bytes.now in
+    let whole : take i bytes ≡ bytes = take_all i bytes (omega (arith, c.loop-byte-test.false)) in
+    let taken = c.loop-byte.invariant.taken start fed stands has in (
+      subst (λ (t : List ℕ). StandsFor c.loop-byte.framer (fed ++ t)) whole taken.0,
+      subst (λ (t : List ℕ). HasAnswered start (g.S.Sink.taken c.loop-byte.out) c.loop-byte.core
+          (items (fed ++ t))) whole taken.1,
+    )

@@ -3,17 +3,20 @@ use Rattle.std.proofs.Common.{◌≡◌, ◌≤◌, ◌+◌, List, ℕ, length}
 use Rattle.dp_io.specs.Streams.{Gave}
 use Rattle.frame.specs.Frames.{StandsFor, items}
 use Rattle.plant_model.specs.declared.limits.TheConstants.{MOST_STREAM_BYTES}
-use Rattle.dp_cli.specs.Sessions.{AnswersItems}
+use Rattle.dp_cli.specs.Steps.{HasAnswered, IsRunning}
 use Rattle.dp_cli.proofs.session.take_stream.Given as goal
 
 abbrev pub invariant-loop-count : goal.invariant-loop-count
 invariant-loop-count g l = record {
+  running : IsRunning l.core;
   plant : l.core.plant ≡ l.fn.core.plant;
   limit : l.core.limit ≡ l.fn.core.limit;
   counted : g.S.Source.faults l.fn.source ≤ g.S.Source.faults l.source;
+  written : g.O.Sink.faults l.fn.out ≤ g.O.Sink.faults l.out;
   fed : (bytes : List ℕ) × Gave (g.S.Source.left l.fn.source) (g.S.Source.left l.source) bytes
       × StandsFor l.framer bytes
-      × AnswersItems l.core.history (items bytes) × (length bytes + l.room ≡ MOST_STREAM_BYTES);
+      × HasAnswered (g.O.Sink.taken l.fn.out) (g.O.Sink.taken l.out) l.core (items bytes)
+      × (length bytes + l.room ≡ MOST_STREAM_BYTES);
 }
 
 abbrev pub decreases-loop-count : goal.decreases-loop-count

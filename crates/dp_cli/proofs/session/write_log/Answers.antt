@@ -3,26 +3,39 @@ use Rattle.std.proofs.Common.{◌≡◌, List, ℕ, ◌++◌, Err, ◌∙◌, ap
 use Rattle.std.proofs.lemmas.Result.{err_from_is_err_and}
 use Rattle.std.specs.List.{flat_map}
 use Rattle.dp_io.specs.Streams.{Grew}
-use Rattle.plant_core.specs.Machine.{IsLegal, is_answer, opening}
+use Rattle.plant_model.specs.declared.plant.Parts.{Parts}
+use Rattle.plant_core.specs.Machine.{IsCall, IsLegal, is_answer, opening_stand}
 use Rattle.plant_core.specs.declared.call.Entry.{Entry}
 use Rattle.dp_words.specs.Shown.{GrewInPart}
 use Rattle.log_text.specs.Texts.{log_head, entry_text}
 use Rattle.dp_cli.proofs.Given.{part-front}
-use Rattle.dp_cli.proofs.Answers.{answer-at}
+use Rattle.dp_cli.proofs.Answers.{answer-at, call-at}
 use Rattle.dp_cli.proofs.Logs.{lines-part, lines-whole, part-as}
 use Rattle.dp_cli.proofs.Texted.{text-failed}
 use Rattle.dp_cli.proofs.session.write_log.Goals as goal
 
-pub entry_text-requires : goal.entry_text-requires
-entry_text-requires g c =
+pub entry_text-requires-clause-answer : goal.entry_text-requires-clause-answer
+entry_text-requires-clause-answer g c =
     let core = c.args.core.now in
     let xs : List Entry = c.history-entry-items.result.now in
     let legal : IsLegal core.plant core.limit xs =
     subst (λ (h : List Entry). IsLegal core.plant core.limit h)
     (sym c.history-entry-items.ensures.entries) c.history-entry-items.ensures.legal in
     subst (λ (e : Entry). IsTrue (is_answer e.reply)) (sym c.entry-item.is)
-    (answer-at core.plant core.limit (opening core.plant) xs legal c.loop-entry.entry-index
+    (answer-at core.plant core.limit (opening_stand core.plant) xs legal c.loop-entry.entry-index
     (omega arith) c.entry-item.result)
+
+pub entry_text-requires-clause-call : goal.entry_text-requires-clause-call
+entry_text-requires-clause-call g c =
+    let core = c.args.core.now in
+    let xs : List Entry = c.history-entry-items.result.now in
+    let legal : IsLegal core.plant core.limit xs =
+    subst (λ (h : List Entry). IsLegal core.plant core.limit h)
+    (sym c.history-entry-items.ensures.entries) c.history-entry-items.ensures.legal in
+    subst (λ (p : Parts). IsCall p c.entry-item.result.call) (sym c.plant-in-loop-entry.ensures)
+    (subst (λ (e : Entry). IsCall core.plant e.call) (sym c.entry-item.is)
+    (call-at core.plant core.limit (opening_stand core.plant) xs legal c.loop-entry.entry-index
+    (omega arith) c.entry-item.result))
 
 pub returns-in_err-send_all : goal.returns-in_err-send_all
 returns-in_err-send_all g c =

@@ -3,8 +3,7 @@ use Rattle.std.proofs.Common.{◌<◌, ◌+◌, List, ℕ, ◌++◌, length, tak
 use Rattle.std.proofs.lemmas.Result.{err_from_is_err_and, on_err_weaker}
 use Rattle.dp_io.specs.Streams.{Grew}
 use Rattle.dp_io.proofs.Grown.{Grew-append}
-use Rattle.dp_words.specs.Shown.{GrewInPart}
-use Rattle.dp_cli.proofs.Given.{lines-more, part-front, part-back}
+use Rattle.dp_cli.proofs.Given.{lines-more, short-back, short-front}
 use Rattle.dp_cli.proofs.writing.send_lines.Goals as goal
 
 pub returns-in_err-send_all-clause-part : goal.returns-in_err-send_all-clause-part
@@ -18,10 +17,11 @@ returns-in_err-send_all-clause-part g c =
     let text = lines-more c.args.text.now sent.0 c.loop-end.rest.now line rest (c.in-Some.end + 1)
     sent.1 c.split_at.ensures.front c.split_at.ensures.back in
     let some = c.in_err-send_all.ensures.part in
-    let part = part-front before after (sent.0 ++ line) rest
-    (part-back before middle after sent.0 line sent.2 (some.0, some.2)) in
+    let part = short-front before after (sent.0 ++ line) rest
+    (short-back before middle after sent.0 line sent.2 some) in
     let failed = err_from_is_err_and c.from_residual.result c.from_residual.ensures.1 in
-    rw failed.1 (subst (λ (t : List ℕ). GrewInPart before after t) (sym text) part)
+    rw failed.1 (subst (λ (t : List ℕ).
+    (n : ℕ) × (n < length t) × Grew before after (take n t)) (sym text) part)
 
 pub loop-end-preserved : goal.loop-end-preserved
 loop-end-preserved g c =
@@ -48,6 +48,6 @@ returns-clause-part g c =
     let rest : List ℕ = c.loop-end.rest.now in
     on_err_weaker c.send_all-2.result
     (λ (some : (n : ℕ) × (n < length rest) × Grew middle after (take n rest)).
-    subst (λ (t : List ℕ). GrewInPart before after t) (sym sent.1)
-    (part-back before middle after sent.0 rest sent.2 (some.0, some.2)))
+    subst (λ (t : List ℕ). (n : ℕ) × (n < length t) × Grew before after (take n t)) (sym sent.1)
+    (short-back before middle after sent.0 rest sent.2 some))
     c.send_all-2.ensures.part

@@ -1,7 +1,7 @@
 -- The five parts, one after another.
 use Rattle.std.proofs.Common.{◌≡◌, List, ℕ, ◌++◌, string_bytes, codes, rules, refl}
 use Rattle.std.specs.List.{flat_map, zip}
-use Rattle.log_text.specs.Texts.{line}
+use Rattle.log_text.specs.Lines.{line}
 use Rattle.log_text.specs.Outcomes.{allocation_text, check_head, intact_text, loss_text}
 use Rattle.log_text.proofs.check.check_text.Goals as goal
 

@@ -8,9 +8,9 @@ use Rattle.plant_core.proofs.Follows.{follows-telegram}
 use Rattle.plant_core.proofs.answer.answer.Goals as goal
 
 pub returns-in-Telegram-clause-state : goal.returns-in-Telegram-clause-state
-returns-in-Telegram-clause-state c =
+returns-in-Telegram-clause-state g c =
     let within : IsTelegram c.in-Telegram.telegram =
-    subst (λ (call : Call). IsCall call) c.in-Telegram.is c.requires.call in
+    subst (λ (call : Call). IsCall c.args.plant.now call) c.in-Telegram.is c.requires.call in
     let follows = follows-telegram c.args.plant.now c.args.state.now c.in-Telegram.telegram
     c.requires.ready within in
     rw (c.answer_telegram-reply.ensures.state, c.in-Telegram.is, follows.events) refl

@@ -1,5 +1,5 @@
 -- Histories by their last entries.
-use Rattle.plant_core.proofs.Histories.{legal-front, legal-last, legal-push, state_after-push}
+use Rattle.plant_core.proofs.Histories.{legal-front, legal-last, legal-push, stand_after-push}
 use Rattle.plant_core.proofs.machine.legal_by_steps.Goals as goal
 
 pub returns-clause-steps : goal.returns-clause-steps
@@ -11,5 +11,5 @@ returns-clause-steps c = λ plant limit history entry. (
   (λ parts. legal-push plant limit history entry parts.0 parts.1),
 )
 
-pub returns-clause-states : goal.returns-clause-states
-returns-clause-states c = state_after-push
+pub returns-clause-stands : goal.returns-clause-stands
+returns-clause-stands c = stand_after-push

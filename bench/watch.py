@@ -1,0 +1,133 @@
+#!/usr/bin/env python3
+"""Times the proved program on a watch of four hours on the demo plant, and says whether it meets its goals.
+
+Usage: bench/watch.py. It runs ./dp once to build the program, then measures the program itself over the watch and over
+its first 1,000 telegrams: the user time of a run and of an entry, the verdicts that it shows in a second of user time,
+and its peak memory over the watch. It ends with 1 where a goal is missed.
+
+The watch has a position each second about the set point, a wind every ten seconds, and a bus tie that is closed after
+the first hour and opened after the second.
+"""
+
+import fcntl
+import os
+import pathlib
+import re
+import resource
+import subprocess
+import sys
+import tempfile
+import time
+from collections.abc import Iterator
+
+from streams import frame
+
+ROOT = pathlib.Path(__file__).resolve().parent.parent
+PROGRAM = ROOT / "crates" / "dp_cli" / "out" / "dp_cli"
+PAGE = 4096
+RUNS = 5
+SECONDS = 14_400
+FRONT = 1_000
+
+# the goals: a run's user time and peak memory, and how many times the time of an entry of the front an entry of the
+# whole watch may take
+MOST_SECONDS = 1.5
+MOST_MEBIBYTES = 250
+MOST_GROWTH = 1.5
+
+
+def telegrams() -> Iterator[bytes]:
+    for k in range(1, SECONDS + 1):
+        yield frame(f"POS,{1000 * k},{37 * k % 101 - 50},{53 * k % 89 - 44},0")
+        if k % 10 == 0:
+            yield frame(f"WND,{1000 * k},120,0")
+        if k == 3_600:
+            yield frame("TIE,T1,CLOSE")
+        if k == 7_200:
+            yield frame("TIE,T1,OPEN")
+
+
+def words(path: pathlib.Path) -> list:
+    return [PROGRAM, "replay", "demo", path]
+
+
+def written(path: pathlib.Path) -> bytes:
+    """What a run over the file writes. It ends with 0: each demand is met after each loss."""
+    return subprocess.run(words(path), stdout=subprocess.PIPE, check=True).stdout
+
+
+def entries_in(text: bytes) -> int:
+    """The log's lines but for its first."""
+    return len(re.findall(rb"^[SCO] ", text, re.MULTILINE))
+
+
+def user_seconds(path: pathlib.Path) -> float:
+    """The mean user time of a run over the file."""
+    before = resource.getrusage(resource.RUSAGE_CHILDREN).ru_utime
+    for _ in range(RUNS):
+        subprocess.run(words(path), stdout=subprocess.DEVNULL, check=True)
+    return (resource.getrusage(resource.RUSAGE_CHILDREN).ru_utime - before) / RUNS
+
+
+def sleeps(program: subprocess.Popen) -> bool:
+    return pathlib.Path(f"/proc/{program.pid}/stat").read_text().rsplit(")", 1)[1].split()[0] == "S"
+
+
+def peak_mebibytes(path: pathlib.Path, size: int) -> float:
+    """The program's own peak memory, once it has written all but the end of its log.
+
+    The pipe that it writes to is of one page, and is read up to a few pages before the end of so many bytes, so that
+    the program waits there. The memory of a process that has ended counts what it was started from, so it is read while
+    the program lives.
+    """
+    source, sink = os.pipe()
+    fcntl.fcntl(sink, fcntl.F_SETPIPE_SZ, PAGE)
+    with subprocess.Popen(words(path), stdout=sink) as program:
+        os.close(sink)
+        left = size - 4 * PAGE
+        while left > 0:
+            left -= len(os.read(source, min(PAGE, left)))
+        while not sleeps(program):
+            time.sleep(0.01)
+        status = pathlib.Path(f"/proc/{program.pid}/status").read_text()
+        while os.read(source, 16 * PAGE):
+            pass
+    os.close(source)
+    return int(re.search(r"VmHWM:\s*(\d+) kB", status)[1]) / 1024
+
+
+def main() -> int:
+    subprocess.run(
+        [ROOT / "dp", "replay", "demo", "-"], stdin=subprocess.DEVNULL, stdout=subprocess.DEVNULL, check=True
+    )
+    stream = list(telegrams())
+    with tempfile.TemporaryDirectory() as folder:
+        path = pathlib.Path(folder) / "telegrams"
+        costs = []
+        for name, part in (("its front", stream[:FRONT]), ("the watch", stream)):
+            path.write_bytes(b"".join(part))
+            text = written(path)
+            seconds, entries, verdicts = user_seconds(path), entries_in(text), text.count(b"\nS PUBLISH,")
+            costs.append(1e6 * seconds / entries)
+            print(
+                f"{name}: {len(part)} telegrams, {entries} entries, {verdicts} verdicts: {1e3 * seconds:.1f} ms user, "
+                f"{costs[-1]:.2f} us an entry, {verdicts / seconds:.0f} verdicts a second"
+            )
+        mebibytes = peak_mebibytes(path, len(text))
+        print(f"the watch: {mebibytes:.1f} MiB at most")
+    missed = [
+        goal
+        for goal, is_met in (
+            (f"a run of the watch takes at most {MOST_SECONDS} s", seconds <= MOST_SECONDS),
+            (f"it takes at most {MOST_MEBIBYTES} MiB", mebibytes <= MOST_MEBIBYTES),
+            (f"an entry takes at most {MOST_GROWTH} times one of the front", costs[1] <= MOST_GROWTH * costs[0]),
+        )
+        if not is_met
+    ]
+    for goal in missed:
+        print(f"missed: {goal}", file=sys.stderr)
+    return 1 if missed else 0
+
+
+if __name__ == "__main__":
+    sys.exit(main())
