@@ -10,8 +10,8 @@ import pathlib
 import subprocess
 import tempfile
 
-ROOT = pathlib.Path(__file__).resolve().parent.parent
-PROGRAM = ROOT / "crates" / "dp_cli" / "out" / "dp_cli"
+from program import PROGRAM, build, peak_mebibytes, user_seconds
+
 MOST_BYTES = 1_048_576
 RUNS = 5
 
@@ -75,30 +75,22 @@ FILES = {
 }
 
 
-def measure(path: pathlib.Path) -> tuple[float, float, str]:
-    """The mean user time in ms, the peak memory in MiB and the error output's line of runs over the file."""
-    script = (
-        "import resource, subprocess, sys\n"
-        "r = subprocess.run(sys.argv[1:], stdin=subprocess.DEVNULL, stdout=subprocess.DEVNULL,"
-        " stderr=subprocess.PIPE, text=True)\n"
-        "u = resource.getrusage(resource.RUSAGE_CHILDREN)\n"
-        "print(u.ru_utime, u.ru_maxrss, r.stderr.strip() or 'status 0', sep=';')\n"
-    )
-    words = ["python3", "-c", script, str(PROGRAM), "replay", str(path), "-"]
-    runs = [subprocess.run(words, capture_output=True, text=True, check=True).stdout.strip().split(";") for _ in range(RUNS)]
-    return 1e3 * sum(float(run[0]) for run in runs) / RUNS, max(float(run[1]) for run in runs) / 1024, runs[0][2]
+def line_of(words: list) -> str:
+    """The line of the error output of a run, or that it ends well."""
+    run = subprocess.run([PROGRAM, *words], stdin=subprocess.DEVNULL, capture_output=True, text=True)
+    return run.stderr.strip() or f"status {run.returncode}"
 
 
 def main() -> None:
-    subprocess.run(
-        [ROOT / "dp", "replay", "demo", "-"], stdin=subprocess.DEVNULL, stdout=subprocess.DEVNULL, check=True
-    )
+    build()
     with tempfile.TemporaryDirectory() as folder:
         for name, text in FILES.items():
             path = pathlib.Path(folder) / "plant.toml"
             path.write_text(text)
-            milliseconds, mebibytes, line = measure(path)
-            print(f"{name}, {len(text)} bytes: {milliseconds:.1f} ms user, {mebibytes:.1f} MiB at most, {line}")
+            words = ["replay", path, "-"]
+            milliseconds = 1e3 * user_seconds(words, RUNS, (0, 3))
+            mebibytes = peak_mebibytes(words)
+            print(f"{name}, {len(text)} bytes: {milliseconds:.1f} ms user, {mebibytes:.1f} MiB at most, {line_of(words)}")
 
 
 if __name__ == "__main__":

@@ -9,22 +9,16 @@ The watch has a position each second about the set point, a wind every ten secon
 the first hour and opened after the second.
 """
 
-import fcntl
-import os
 import pathlib
 import re
-import resource
 import subprocess
 import sys
 import tempfile
-import time
 from collections.abc import Iterator
 
+from program import PROGRAM, build, peak_mebibytes, user_seconds
 from streams import frame
 
-ROOT = pathlib.Path(__file__).resolve().parent.parent
-PROGRAM = ROOT / "crates" / "dp_cli" / "out" / "dp_cli"
-PAGE = 4096
 RUNS = 5
 SECONDS = 14_400
 FRONT = 1_000
@@ -47,13 +41,9 @@ def telegrams() -> Iterator[bytes]:
             yield frame("TIE,T1,OPEN")
 
 
-def words(path: pathlib.Path) -> list:
-    return [PROGRAM, "replay", "demo", path]
-
-
-def written(path: pathlib.Path) -> bytes:
-    """What a run over the file writes. It ends with 0: each demand is met after each loss."""
-    return subprocess.run(words(path), stdout=subprocess.PIPE, check=True).stdout
+def written(words: list) -> bytes:
+    """What a run writes. It ends with 0: each demand is met after each loss."""
+    return subprocess.run([PROGRAM, *words], stdout=subprocess.PIPE, check=True).stdout
 
 
 def entries_in(text: bytes) -> int:
@@ -61,59 +51,23 @@ def entries_in(text: bytes) -> int:
     return len(re.findall(rb"^[SCO] ", text, re.MULTILINE))
 
 
-def user_seconds(path: pathlib.Path) -> float:
-    """The mean user time of a run over the file."""
-    before = resource.getrusage(resource.RUSAGE_CHILDREN).ru_utime
-    for _ in range(RUNS):
-        subprocess.run(words(path), stdout=subprocess.DEVNULL, check=True)
-    return (resource.getrusage(resource.RUSAGE_CHILDREN).ru_utime - before) / RUNS
-
-
-def sleeps(program: subprocess.Popen) -> bool:
-    return pathlib.Path(f"/proc/{program.pid}/stat").read_text().rsplit(")", 1)[1].split()[0] == "S"
-
-
-def peak_mebibytes(path: pathlib.Path, size: int) -> float:
-    """The program's own peak memory, once it has written all but the end of its log.
-
-    The pipe that it writes to is of one page, and is read up to a few pages before the end of so many bytes, so that
-    the program waits there. The memory of a process that has ended counts what it was started from, so it is read while
-    the program lives.
-    """
-    source, sink = os.pipe()
-    fcntl.fcntl(sink, fcntl.F_SETPIPE_SZ, PAGE)
-    with subprocess.Popen(words(path), stdout=sink) as program:
-        os.close(sink)
-        left = size - 4 * PAGE
-        while left > 0:
-            left -= len(os.read(source, min(PAGE, left)))
-        while not sleeps(program):
-            time.sleep(0.01)
-        status = pathlib.Path(f"/proc/{program.pid}/status").read_text()
-        while os.read(source, 16 * PAGE):
-            pass
-    os.close(source)
-    return int(re.search(r"VmHWM:\s*(\d+) kB", status)[1]) / 1024
-
-
 def main() -> int:
-    subprocess.run(
-        [ROOT / "dp", "replay", "demo", "-"], stdin=subprocess.DEVNULL, stdout=subprocess.DEVNULL, check=True
-    )
+    build()
     stream = list(telegrams())
     with tempfile.TemporaryDirectory() as folder:
         path = pathlib.Path(folder) / "telegrams"
+        words = ["replay", "demo", path]
         costs = []
         for name, part in (("its front", stream[:FRONT]), ("the watch", stream)):
             path.write_bytes(b"".join(part))
-            text = written(path)
-            seconds, entries, verdicts = user_seconds(path), entries_in(text), text.count(b"\nS PUBLISH,")
+            text = written(words)
+            seconds, entries, verdicts = user_seconds(words, RUNS), entries_in(text), text.count(b"\nS PUBLISH,")
             costs.append(1e6 * seconds / entries)
             print(
                 f"{name}: {len(part)} telegrams, {entries} entries, {verdicts} verdicts: {1e3 * seconds:.1f} ms user, "
                 f"{costs[-1]:.2f} us an entry, {verdicts / seconds:.0f} verdicts a second"
             )
-        mebibytes = peak_mebibytes(path, len(text))
+        mebibytes = peak_mebibytes(words, len(text))
         print(f"the watch: {mebibytes:.1f} MiB at most")
     missed = [
         goal
