@@ -7,7 +7,7 @@ ghost use Rattle.alarm_log.specs.Alarms.{is_unacknowledged_in, no_alarms};
 
 use crate::alarm::{Alarm, Cause, acknowledge, clear, clear_consequences};
 use circular_buffer::HeapCircularBuffer;
-use dp_io::NoMemory;
+use no_memory::NoMemory;
 use plant_model::limits::{LAST_ALARM, MOST_ALARMS};
 use std::alloc::Global;
 use std::marker::Model;

@@ -9,7 +9,8 @@ ghost use Rattle.dp_cli.specs.Writing.{EndsWriting};
 
 use crate::findings::{findings_of, has_lost};
 use crate::writing::send_lines;
-use dp_io::{NoMemory, Sink, Source};
+use dp_io::{Sink, Source};
+use no_memory::NoMemory;
 use dp_words::{Form, RunStatus, form_of, plant_from, tell};
 use log_text::{Findings, check_json, check_text};
 use plant_model::plant::Plant;

@@ -18,7 +18,8 @@ ghost use Rattle.log_text.specs.Texts.{log_text, report_text};
 
 use crate::writing::send_lines;
 use allocator::Direct;
-use dp_io::{NoMemory, Sink, Source, send_all};
+use dp_io::{Sink, Source, send_all};
+use no_memory::NoMemory;
 use dp_words::RunStatus;
 use feasibility::analyse;
 use frame::{Framer, Item};

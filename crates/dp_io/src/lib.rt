@@ -4,12 +4,10 @@
 
 mod gate;
 mod memory;
-mod no_memory;
 mod stream;
 mod system;
 
 pub use gate::{Gate, NoGate, Stage};
 pub use memory::{MemorySink, MemorySource};
-pub use no_memory::NoMemory;
 pub use stream::{Failed, Sink, Source, send_all};
 pub use system::{ErrorOutput, LazyFile, StdErr, StdOut};

@@ -4,8 +4,8 @@ ghost use Rattle.std.specs.Prelude.{IsTrue, IsErr, IfOk, OnOk, OnErr, Some};
 ghost use Rattle.std.proofs.Common.{min};
 ghost use Rattle.dp_io.specs.Streams.{Rose, Gave, Grew, one_more};
 
-use crate::no_memory::NoMemory;
 use crate::stream::{Failed, Sink, Source, fault};
+use no_memory::NoMemory;
 use std::alloc::Global;
 use std::marker::Model;
 

@@ -4,7 +4,8 @@ ghost use Rattle.dp_words.specs.Shown.{shown};
 ghost use Rattle.dp_words.specs.Statuses.{IsTold, status_code, status_text};
 
 use crate::line::Line;
-use dp_io::{Failed, NoMemory, Sink, send_all};
+use dp_io::{Failed, Sink, send_all};
+use no_memory::NoMemory;
 use plant_file::PlantFault;
 
 /// How a call of the program ends.

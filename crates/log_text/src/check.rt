@@ -7,7 +7,7 @@ ghost use Rattle.log_text.specs.Outcomes.{loss_text};
 use crate::findings::Findings;
 use crate::outcome::{push_given_part, push_outcome, push_wrench};
 use certificate::Outcome;
-use dp_io::NoMemory;
+use no_memory::NoMemory;
 use plant_core::Allocation;
 use plant_model::parts::Group;
 use plant_model::plant::Plant;

@@ -8,7 +8,7 @@ ghost use Rattle.log_text.specs.Texts.{place_text, reply_text, verdict_text};
 
 use crate::outcome::{push_given_part, push_outcome, push_wrench};
 use certificate::{Outcome, Place};
-use dp_io::NoMemory;
+use no_memory::NoMemory;
 use plant_core::{Allocation, Call, Cell, Cells, Entry, Note, Reply};
 use plant_model::name::Name;
 use plant_model::plant::Plant;

@@ -4,7 +4,7 @@ ghost use Rattle.log_text.specs.Outcomes.{cuts_text, given_part_text, given_text
 ghost use Rattle.log_text.specs.Outcomes.{thrusts_text, wrench_text};
 
 use certificate::{Cuts, Outcome};
-use dp_io::NoMemory;
+use no_memory::NoMemory;
 use plant_core::Allocation;
 use plant_model::plant::Plant;
 use plant_model::thrust::{Thrust, Thrusts};

@@ -6,7 +6,7 @@ ghost use Rattle.log_text.specs.Texts.{alarm_text, alarms_text, cause_text, grou
 ghost use Rattle.log_text.specs.Texts.{is_told, report_text, shown_text};
 
 use alarm_log::{Alarm, Alarms, Cause};
-use dp_io::NoMemory;
+use no_memory::NoMemory;
 use plant_core::{Cell, Core};
 use plant_model::parts::Group;
 use plant_model::plant::Plant;

@@ -7,7 +7,7 @@ ghost use Rattle.log_text.specs.Json.{thrust_data, thrusts_data};
 
 use crate::findings::Findings;
 use certificate::{Cuts, Outcome};
-use dp_io::NoMemory;
+use no_memory::NoMemory;
 use plant_core::Allocation;
 use plant_model::parts::Group;
 use plant_model::plant::Plant;

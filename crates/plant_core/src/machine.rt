@@ -13,7 +13,7 @@ use crate::board::cells;
 use crate::call::{Call, Entry, Reply};
 use crate::state::State;
 use alarm_log::Alarms;
-pub use dp_io::NoMemory;
+pub use no_memory::NoMemory;
 use pid::{Controller, Fix};
 use plant_model::board::Cells;
 use plant_model::limits::{MOST_ENTRIES, MOST_GROUPS};

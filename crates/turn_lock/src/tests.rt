@@ -3,7 +3,8 @@ ghost use Rattle.std.specs.Prelude.{◌≡◌, ◌++◌, ◌∷◌, [], false, I
 ghost use Rattle.turn_lock.specs.Passes.{root_of};
 
 use crate::{Keeps, Pass, Turn};
-use dp_io::{Gate, NoGate, NoMemory, Stage};
+use dp_io::{Gate, NoGate, Stage};
+use no_memory::NoMemory;
 use std::alloc::Global;
 use std::sync::Wait;
 use std::sync::atomic::{AtomicU64, Ordering};

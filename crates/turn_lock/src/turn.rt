@@ -14,7 +14,8 @@ use crate::plays::{
     Compare, Desk, Draw, GiveNumber, Learn, Look, Place, Serve, ServeEntry, TakeBack, Tell,
 };
 use atomic_table::{Refused, Table};
-use dp_io::{Gate, NoMemory, Stage};
+use dp_io::{Gate, Stage};
+use no_memory::NoMemory;
 use std::alloc::Global;
 use std::marker::Model;
 use std::snapshot::Snapshot;

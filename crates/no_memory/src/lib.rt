@@ -1,4 +1,6 @@
-//! Want of memory.
+//! Want of memory, the one answer that any call which takes memory may give.
+#![tactic(auto)]
+
 use std::alloc::{AllocError, AllocFailed};
 
 /// Memory ran out.
