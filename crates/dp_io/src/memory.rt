@@ -101,6 +101,7 @@ impl Source for MemorySource {
         ensures end { result ≡ Ok 0 → 0 < length into.old → self.old.left ≡ [] }
         ensures kept { OnErr result (self.new.left ≡ self.old.left) }
         ensures failed { OnErr result (Rose self.old.faults self.new.faults) }
+        ensures same { OnOk result (self.new.faults ≡ self.old.faults) }
         ensures counted { self.old.faults ≤ self.new.faults }
 
         // What a source in memory does beyond that.
@@ -109,7 +110,6 @@ impl Source for MemorySource {
             (λ n. n ≡ min (min self.old.most (length into.old)) (length self.old.left)) }
         ensures next { self.new.next ≡ one_more self.old.next }
         ensures one_fault { OnErr result (self.new.faults ≡ one_more self.old.faults) }
-        ensures no_fault { OnOk result (self.new.faults ≡ self.old.faults) }
         ensures same_most { self.new.most ≡ self.old.most }
         ensures same_fails { self.new.fails ≡ self.old.fails }
     {
@@ -190,6 +190,7 @@ impl Sink for MemorySink {
             (λ n. Grew (Some self.old.taken) (Some self.new.taken) (take n piece.now)) }
         ensures kept { OnErr result (self.new.taken ≡ self.old.taken) }
         ensures failed { OnErr result (Rose self.old.faults self.new.faults) }
+        ensures same { OnOk result (self.new.faults ≡ self.old.faults) }
         ensures counted { self.old.faults ≤ self.new.faults }
 
         // What a sink in memory does beyond that.
@@ -199,7 +200,6 @@ impl Sink for MemorySink {
             (λ n. n ≡ min (length piece.now) (self.old.room - length self.old.taken)) }
         ensures next { self.new.next ≡ one_more self.old.next }
         ensures one_fault { OnErr result (self.new.faults ≡ one_more self.old.faults) }
-        ensures no_fault { OnOk result (self.new.faults ≡ self.old.faults) }
         ensures same_room { self.new.room ≡ self.old.room }
         ensures same_fails { self.new.fails ≡ self.old.fails }
     {

@@ -16,7 +16,8 @@ pub(crate) fn fault(faults: &mut u64) -> Failed
     Failed
 }
 
-/// Where bytes come from.
+/// Where bytes come from. Its count of faults is greater after a call only where the call answers
+/// `Failed`.
 pub trait Source {
     /// The bytes left, where the source tells them.
     ghost left: { Self → Option (List ℕ) };
@@ -33,10 +34,11 @@ pub trait Source {
             → IfSome (left self.old) (λ bytes. bytes ≡ []) }
         ensures kept { OnErr result (left self.new ≡ left self.old) }
         ensures failed { OnErr result (Rose (faults self.old) (faults self.new)) }
+        ensures same { OnOk result (faults self.new ≡ faults self.old) }
         ensures counted { faults self.old ≤ faults self.new };
 }
 
-/// Where bytes go.
+/// Where bytes go. Its count of faults is greater after a call only where the call answers `Failed`.
 pub trait Sink {
     /// The bytes taken so far, where the sink tells them.
     ghost taken: { Self → Option (List ℕ) };
@@ -54,6 +56,7 @@ pub trait Sink {
             (λ n. Grew (taken self.old) (taken self.new) (take n piece.now)) }
         ensures kept { OnErr result (taken self.new ≡ taken self.old) }
         ensures failed { OnErr result (Rose (faults self.old) (faults self.new)) }
+        ensures same { OnOk result (faults self.new ≡ faults self.old) }
         ensures counted { faults self.old ≤ faults self.new };
 }
 
@@ -63,6 +66,7 @@ pub fn send_all<S: Sink>(sink: &mut S, piece: &[u8]) -> Result<(), Failed>
     ensures part { OnErr result ((n : ℕ) × (n < length piece.now)
         × Grew (S.taken sink.old) (S.taken sink.new) (take n piece.now)) }
     ensures failed { OnErr result (Rose (S.faults sink.old) (S.faults sink.new)) }
+    ensures same { OnOk result (S.faults sink.new ≡ S.faults sink.old) }
     ensures counted { S.faults sink.old ≤ S.faults sink.new }
 {
     let mut sent = 0;

@@ -7,5 +7,5 @@ pub loop-sent-preserved : goal.loop-sent-preserved
 loop-sent-preserved g c = record {
   within = grind (arith, common_steps, c.in_ok-sent.ensures.within);
   grew = Grew-part _ _ _ _ _ _ c.loop-sent.invariant.grew c.in_ok-sent.ensures.grew;
-  counted = omega arith;
+  same = grind (arith, c.in_ok-sent.ensures.same, c.loop-sent.invariant.same);
 }
