@@ -36,8 +36,9 @@ IsPlantError word source (Plant fault) = PlantSays word source (Err fault)
 IsPlantError word source NoMemory = Unit {0}
 IsPlantError word source _ = ⊥
 
--- the plant, or why there is none
+-- the plant, or why there is none; a read failed only where that is the answer
 pub record FindsPlant (word : List ℕ) (source : Shown) (result : Result Parts RunStatus) : Type
     0 where
   pub found : IfOk result (λ plant. PlantSays word source (Ok plant))
   pub error : IfErr result (IsPlantError word source)
+  pub none_failed : (result ≡ Err ReadFault) ⊎ (source.faults_after ≡ source.faults_before)

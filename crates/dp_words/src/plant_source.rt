@@ -23,6 +23,8 @@ fn file_bytes<A: Source>(alloc: Global, source: &mut A) -> Result<Vec<u8>, RunSt
         → HasRisen (shown A.left A.faults source.old source.new) }
     ensures errors { IfErr result
         (λ status. (status ≡ RunStatus.ReadFault) ⊎ (status ≡ RunStatus.NoMemory)) }
+    ensures none_failed { (result ≡ Err RunStatus.ReadFault)
+        ⊎ (A.faults source.new ≡ A.faults source.old) }
     ensures counted { A.faults source.old ≤ A.faults source.new }
 {
     let mut bytes = Vec::new(alloc);
