@@ -6,12 +6,8 @@
 //! connect.
 #![tactic(auto)]
 
-#[cfg(test)]
-mod example;
 mod map;
 mod power;
-#[cfg(test)]
-mod tests;
 
 pub use map::{IslandMap, islands};
 pub use power::{quarter, share};

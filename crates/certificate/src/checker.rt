@@ -64,6 +64,3 @@ pub fn judge(
         }
     }
 }
-
-#[cfg(test)]
-mod tests;

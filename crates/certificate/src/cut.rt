@@ -13,6 +13,3 @@ pub fn check_cut(sums: &Sums, w: Vec3, d: Vec3) -> bool
 {
     support(sums, w) < dot(w, d)
 }
-
-#[cfg(test)]
-mod tests;

@@ -148,6 +148,3 @@ fn along(point: Point, thrust: Thrust) -> i128
 {
     point.x as i128 * thrust.x + point.y as i128 * thrust.y
 }
-
-#[cfg(test)]
-mod tests;

@@ -4,8 +4,6 @@
 mod checker;
 mod cut;
 mod demand;
-#[cfg(test)]
-mod example;
 mod holds;
 mod hull;
 mod law;

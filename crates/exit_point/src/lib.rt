@@ -31,6 +31,3 @@ pub fn exit(sums: &Sums, d: Vec3) -> ExitWeights
         None => candidates::exit(sums, d),
     }
 }
-
-#[cfg(test)]
-mod tests;

@@ -12,6 +12,3 @@ mod step;
 pub use analysis::{analyse, verdict};
 pub use choosing::choose;
 pub use step::{cut_off, held};
-
-#[cfg(test)]
-mod tests;

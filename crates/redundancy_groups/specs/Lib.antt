@@ -2,4 +2,3 @@ pub mod Standing
 pub mod Loads
 pub mod Connections
 pub mod Surviving
-pub mod Examples

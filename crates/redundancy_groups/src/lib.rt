@@ -3,13 +3,9 @@
 #![tactic(auto)]
 
 mod exact;
-#[cfg(test)]
-mod example;
 mod fixed;
 mod regions;
 mod stands;
-#[cfg(test)]
-mod tests;
 
 pub use exact::shares_are_exact;
 pub use fixed::{MOST_FIXED_LOAD, fixed_load};

@@ -138,36 +138,3 @@ fn is_same(a: Member, b: Member) -> bool
 {
     a == b
 }
-
-#[cfg(test)]
-mod tests {
-    use super::*;
-    use plant_model::demo::demo;
-
-    #[test]
-    fn a_lost_section_takes_what_it_feeds(rt: HostRuntime) {
-        let plant = demo();
-        let intact = standing(&plant, plant.opening(), Loss::Intact);
-        assert_eq!(rt; intact.selected, plant.opening().selected);
-        assert_eq!(rt; intact.running, plant.opening().running);
-        assert_eq!(rt;
-            intact.live,
-            [true, true, false, false, false, false, false, false]
-        );
-        let lost = standing(&plant, plant.opening(), Loss::Group(0));
-        assert_eq!(rt;
-            lost.live,
-            [false, true, false, false, false, false, false, false]
-        );
-        assert_eq!(rt;
-            lost.running,
-            [false, true, false, false, false, false, false, false]
-        );
-        assert_eq!(rt;
-            lost.selected,
-            [
-                false, true, false, true, false, false, false, false, false, false, false, false,
-            ]
-        );
-    }
-}

@@ -1,5 +1,6 @@
 //! The search for a least cut among the normals of each two directions.
 ghost use Rattle.std.specs.Prelude.{◌≡◌, ◌≢◌, pos, ◌*ℤ◌, ◌≤ℤ◌, ◌⊎◌, All, IfNone, IfSome};
+ghost use Rattle.plant_model.specs.Numbers.{IsWithin};
 ghost use Rattle.wrench_geometry.specs.Cuts.{IsCut, IsLeastCut};
 ghost use Rattle.wrench_geometry.specs.Vectors.{dot_of, opposite_of, zero_vector};
 ghost use Rattle.wrench_geometry.specs.Wrenches.{IsDemandVector};
@@ -35,26 +36,43 @@ fn axis_cut(sums: &Sums, d: Vec3) -> Cut
     requires not_zero { d ≢ zero_vector }
     ensures { IsCut sums.now d result }
 {
-    let axis = if d.x != 0 {
+    cut_of(sums, d, axis_of(d))
+}
+
+/// A signed axis along which the demand is not 0.
+fn axis_of(d: Vec3) -> Vec3
+    requires { d ≢ zero_vector }
+    ensures normal { IsNormal result }
+    ensures ahead { pos 1 ≤ℤ dot_of result d }
+{
+    if d.x != 0 {
         Vec3 {
-            x: d.x.signum(),
+            x: sign(d.x),
             y: 0,
             z: 0,
         }
     } else if d.y != 0 {
         Vec3 {
             x: 0,
-            y: d.y.signum(),
+            y: sign(d.y),
             z: 0,
         }
     } else {
         Vec3 {
             x: 0,
             y: 0,
-            z: d.z.signum(),
+            z: sign(d.z),
         }
-    };
-    cut_of(sums, d, axis)
+    }
+}
+
+/// 1 or -1, whichever has the number's sign.
+fn sign(z: i64) -> i64
+    requires { z ≢ pos 0 }
+    ensures one { IsWithin (pos 1) result }
+    ensures ahead { pos 1 ≤ℤ (result *ℤ z) }
+{
+    if z > 0 { 1 } else { -1 }
 }
 
 /// The least of a cut and those of the normals of one direction and each of some others.

@@ -5,8 +5,6 @@
 mod candidates;
 mod directions;
 mod reach;
-#[cfg(test)]
-mod tests;
 
 pub use candidates::least_cut;
 pub use directions::{DIRECTION_FORCE, DIRECTION_MOMENT, NORMAL_FORCE, NORMAL_MOMENT};

@@ -20,6 +20,3 @@ pub use vector::{MOST_FACTOR, MOST_PLAIN, Vec3, cross, difference, dot, opposite
 pub use vertices::{
     MOST_DETERMINANT, SHORT_FORCE, SHORT_MOMENT, Vertex, determinant, farthest, product,
 };
-
-#[cfg(test)]
-mod tests;

@@ -1,4 +1,4 @@
--- Thrusters with sectors, for tests.
+-- Thrusters with sectors.
 use Rattle.std.specs.Prelude.{List, ℕ, [], ◌∷◌, pos, neg_ℤ, None}
 use Rattle.plant_model.specs.declared.parts.Thruster.{Thruster}
 use Rattle.plant_model.specs.Demo.{piece, point}
