@@ -4,8 +4,6 @@
 
 mod alarm;
 mod alarms;
-#[cfg(test)]
-mod tests;
 
 pub use alarm::{Alarm, Cause};
 pub use alarms::{Alarms, alarms_are_a_fold};

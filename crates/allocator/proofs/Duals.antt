@@ -19,7 +19,7 @@ use Rattle.certificate.specs.Outcomes.{IsOneEach, Question, total_of}
 use Rattle.certificate.specs.Sides.{place_of}
 use Rattle.certificate.proofs.Choosing.{length-choice}
 use Rattle.certificate.proofs.Duality.{all_at_most}
-use Rattle.plant_core.specs.Allocations.{IsPart}
+use Rattle.thrust_allocation.specs.Allocations.{IsPart}
 use Rattle.allocator.specs.Reaches.{AreAtRest, IsGreatestIn, denominator_of}
 use Rattle.allocator.proofs.Resting.{total_at_rest}
 

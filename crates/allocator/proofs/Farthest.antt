@@ -5,7 +5,7 @@ use Rattle.int_ring.proofs.Laws.{linear}
 use Rattle.int_ring.proofs.Ring.{ring, reads}
 use Rattle.int_ring.proofs.Order.{fraction_le_lt_trans, mul_le_right}
 use Rattle.certificate.specs.Outcomes.{Question}
-use Rattle.plant_core.specs.Allocations.{IsPart}
+use Rattle.thrust_allocation.specs.Allocations.{IsPart}
 use Rattle.allocator.specs.Reaches.{IsFarther, IsFarthest, IsGreatestIn, IsReach}
 use Rattle.allocator.specs.declared.reach.Reach.{Reach}
 

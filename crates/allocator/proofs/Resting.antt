@@ -26,7 +26,7 @@ use Rattle.certificate.proofs.Beside.{same_thrust}
 use Rattle.certificate.proofs.Choosing.{length-choice}
 use Rattle.certificate.proofs.Hulls.{lies_of_zero}
 use Rattle.feasibility.specs.Means.{means_beside, weighted_point}
-use Rattle.plant_core.specs.Allocations.{Gives}
+use Rattle.thrust_allocation.specs.Allocations.{Gives}
 use Rattle.allocator.specs.Reaches.{AreAtRest}
 
 -- ---- with no loss no thruster stays at its frozen thrust

@@ -12,8 +12,8 @@ use Rattle.wrench_geometry.specs.declared.vector.Vec3.{Vec3}
 use Rattle.wrench_geometry.proofs.Bounds.{same_vector}
 use Rattle.certificate.specs.Outcomes.{IsOneEach, Question}
 use Rattle.feasibility.specs.Lowest.{AreLowest}
-use Rattle.plant_core.specs.Allocations.{AsksNothing, CanGive, Gives, IsPart, IsRight, IsWhole}
-use Rattle.plant_core.specs.declared.allocation.Allocation.{Allocation}
+use Rattle.thrust_allocation.specs.Allocations.{AsksNothing, CanGive, Gives, IsPart, IsRight, IsWhole}
+use Rattle.thrust_allocation.specs.declared.allocation.Allocation.{Allocation}
 use Rattle.allocator.specs.Reaches.{AreAtRest, IsFarthest}
 use Rattle.allocator.specs.declared.reach.Reach.{Reach}
 use Rattle.allocator.proofs.Resting.{nothing_gives}

@@ -26,7 +26,7 @@ use Rattle.feasibility.specs.Lowest.{AreReduced, times}
 use Rattle.feasibility.specs.Means.{means_beside}
 use Rattle.feasibility.proofs.Means.{length-means, means_lie, total_of_means}
 use Rattle.feasibility.proofs.Reached.{lie_divided, total_of_times}
-use Rattle.plant_core.specs.Allocations.{Gives}
+use Rattle.thrust_allocation.specs.Allocations.{Gives}
 use Rattle.allocator.specs.Reaches.{AreAtRest, denominator_of}
 use Rattle.allocator.proofs.Resting.{means_over, total_at_rest}
 

@@ -9,7 +9,7 @@ use Rattle.wrench_geometry.specs.Chosen.{images_of}
 use Rattle.exit_point.specs.declared.weights.ExitWeights.{ExitWeights}
 use Rattle.exit_point.specs.Exits.{IsExit}
 use Rattle.certificate.specs.Outcomes.{Question}
-use Rattle.plant_core.specs.Allocations.{CanGive, IsPart}
+use Rattle.thrust_allocation.specs.Allocations.{CanGive, IsPart}
 use Rattle.allocator.specs.declared.reach.Reach.{Reach}
 
 -- no fixed thrust is any but zero

@@ -5,7 +5,7 @@ ghost use Rattle.plant_model.specs.declared.status.Loss.TheVariants.{Intact};
 ghost use Rattle.wrench_geometry.specs.Wrenches.{IsDemandVector};
 ghost use Rattle.certificate.specs.Losses.{question_after};
 ghost use Rattle.certificate.specs.Outcomes.{question_of};
-ghost use Rattle.plant_core.specs.Allocations.{IsRight};
+ghost use Rattle.thrust_allocation.specs.Allocations.{IsRight};
 ghost use Rattle.feasibility.specs.Lowest.{AreLowest};
 ghost use Rattle.allocator.specs.Reaches.{AreAtRest};
 
@@ -13,11 +13,11 @@ use crate::reach::farthest_reach;
 use crate::thrusts::{given, idle};
 use certificate::vector_of;
 use dp_num::Fraction;
-use plant_core::{Allocate, Allocation};
 use plant_model::plant::Plant;
 use plant_model::status::{Loss, Status};
 use plant_model::wrench::Wrench;
 use redundancy_groups::surviving;
+use thrust_allocation::{Allocate, Allocation};
 use thrust_region::{Regions, choice};
 use wrench_geometry::Vec3;
 

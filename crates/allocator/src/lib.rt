@@ -9,6 +9,3 @@ mod reach;
 mod thrusts;
 
 pub use direct::{Direct, allocate};
-
-#[cfg(test)]
-mod tests;

@@ -2,7 +2,7 @@
 ghost use Rattle.std.specs.Prelude.{◌≡◌, ◌≢◌, ◌<◌, pos, ◌≤ℤ◌, length, map};
 ghost use Rattle.std.specs.Int.{int_max};
 ghost use Rattle.dp_num.specs.Fractions.{IsInLowestTerms, SameQuotient};
-ghost use Rattle.plant_core.specs.Allocations.{IsPart};
+ghost use Rattle.thrust_allocation.specs.Allocations.{IsPart};
 ghost use Rattle.thrust_region.specs.Choices.{choices_of};
 ghost use Rattle.thrust_region.specs.Pieces.{all_points};
 ghost use Rattle.wrench_geometry.specs.Vectors.{zero_vector};

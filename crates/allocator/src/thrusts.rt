@@ -1,6 +1,6 @@
 //! Allocations with the thrusts that they give.
 ghost use Rattle.std.specs.Prelude.{◌≡◌, pos, ◌≤ℤ◌, length, map};
-ghost use Rattle.plant_core.specs.Allocations.{Gives};
+ghost use Rattle.thrust_allocation.specs.Allocations.{Gives};
 ghost use Rattle.thrust_region.specs.Choices.{choice_of};
 ghost use Rattle.thrust_region.specs.Pieces.{points_of};
 ghost use Rattle.wrench_geometry.specs.Chosen.{levers_of};
@@ -13,9 +13,9 @@ use crate::reach::{Reach, denominator};
 use dp_num::Fraction;
 use feasibility::lowest::{Shared, lowest};
 use feasibility::mean::means;
-use plant_core::Allocation;
 use plant_model::plant::Plant;
 use plant_model::thrust::{Point, Thrust, Thrusts};
+use thrust_allocation::Allocation;
 use thrust_region::Chosen;
 
 /// The allocation of the part that the chosen pieces reach: their weighted points as thrusts, in

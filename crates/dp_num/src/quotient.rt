@@ -20,18 +20,3 @@ pub fn clamp(value: i128, low: i128, high: i128) -> i128
 {
     value.clamp(low, high)
 }
-
-#[cfg(test)]
-mod tests {
-    use super::*;
-
-    #[test]
-    fn divides_and_holds(rt: HostRuntime) {
-        assert_eq!(rt; floor_div(7, 2), 3);
-        assert_eq!(rt; floor_div(-7, 2), -4);
-        assert_eq!(rt; floor_div(-8, 2), -4);
-        assert_eq!(rt; clamp(-5, 0, 9), 0);
-        assert_eq!(rt; clamp(5, 0, 9), 5);
-        assert_eq!(rt; clamp(15, 0, 9), 9);
-    }
-}

@@ -12,7 +12,7 @@ use Rattle.plant_model.specs.declared.wrench.Wrench.{Wrench}
 use Rattle.certificate.specs.declared.outcome.Cuts.{Cuts}
 use Rattle.certificate.specs.declared.outcome.Outcome.{Outcome}
 use Rattle.certificate.specs.declared.outcome.Outcome.TheVariants.{Holds, Lost}
-use Rattle.plant_core.specs.declared.allocation.Allocation.{Allocation}
+use Rattle.thrust_allocation.specs.declared.allocation.Allocation.{Allocation}
 use Rattle.log_text.specs.Json.{allocation_data, check_data, cut_data, cuts_data, demand_data}
 use Rattle.log_text.specs.Json.{loss_data, losses_data, outcome_data, thrust_data, thrusts_data}
 use Rattle.log_text.specs.declared.findings.Findings.{Findings}

@@ -17,7 +17,7 @@ use Rattle.telegram.specs.Telegrams.{comma}
 use Rattle.wrench_geometry.specs.declared.vector.Vec3.{Vec3}
 use Rattle.certificate.specs.declared.outcome.Outcome.{Outcome}
 use Rattle.certificate.specs.declared.outcome.Outcome.TheVariants.{Holds, Lost}
-use Rattle.plant_core.specs.declared.allocation.Allocation.{Allocation}
+use Rattle.thrust_allocation.specs.declared.allocation.Allocation.{Allocation}
 use Rattle.log_text.specs.Fits.{FitsAllocation, FitsOutcome, FitsThrust, FitsVector}
 use Rattle.log_text.specs.Fits.{FitsWord, FitsWrench}
 use Rattle.log_text.specs.Outcomes.{cut_text, outcome_text, thrust_text}

@@ -15,7 +15,7 @@ use Rattle.telegram.specs.Telegrams.{comma}
 use Rattle.certificate.specs.declared.outcome.Place.{Place}
 use Rattle.certificate.specs.declared.outcome.Place.TheVariants as places
 use Rattle.plant_core.specs.Machine.{is_answer}
-use Rattle.plant_core.specs.declared.allocation.Allocation.{Allocation}
+use Rattle.thrust_allocation.specs.declared.allocation.Allocation.{Allocation}
 use Rattle.plant_core.specs.declared.call.Reply.{Reply}
 use Rattle.plant_core.specs.declared.call.Reply.TheVariants as replies
 use Rattle.log_text.specs.Fits.{FitsCell, FitsPlace, FitsReply}

@@ -10,7 +10,7 @@ use Rattle.plant_model.specs.declared.plant.Parts.{Parts}
 use Rattle.plant_model.specs.declared.thrust.Thrust.{Thrust}
 use Rattle.plant_model.specs.declared.wrench.Wrench.{Wrench}
 use Rattle.telegram.specs.declared.telegram.Telegram.TheVariants.{Position}
-use Rattle.plant_core.specs.declared.allocation.Allocation.{Allocation}
+use Rattle.thrust_allocation.specs.declared.allocation.Allocation.{Allocation}
 use Rattle.plant_core.specs.declared.call.Call.{Call}
 use Rattle.plant_core.specs.declared.call.Call.TheVariants.{Telegram}
 use Rattle.plant_core.specs.declared.call.Entry.{Entry}

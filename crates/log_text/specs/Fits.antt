@@ -14,7 +14,7 @@ use Rattle.certificate.specs.declared.outcome.Outcome.{Outcome}
 use Rattle.certificate.specs.declared.outcome.Outcome.TheVariants.{Holds, Lost}
 use Rattle.certificate.specs.declared.outcome.Place.{Place}
 use Rattle.certificate.specs.declared.outcome.Place.TheVariants.{Thruster, Cut}
-use Rattle.plant_core.specs.declared.allocation.Allocation.{Allocation}
+use Rattle.thrust_allocation.specs.declared.allocation.Allocation.{Allocation}
 use Rattle.plant_core.specs.declared.call.Call.{Call}
 use Rattle.plant_core.specs.declared.call.Call.TheVariants.{Publish}
 use Rattle.plant_core.specs.declared.call.Entry.{Entry}

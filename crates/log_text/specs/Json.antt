@@ -15,7 +15,7 @@ use Rattle.wrench_geometry.specs.declared.vector.Vec3.{Vec3}
 use Rattle.certificate.specs.declared.outcome.Cuts.{Cuts}
 use Rattle.certificate.specs.declared.outcome.Outcome.{Outcome}
 use Rattle.certificate.specs.declared.outcome.Outcome.TheVariants.{Holds, Lost}
-use Rattle.plant_core.specs.declared.allocation.Allocation.{Allocation}
+use Rattle.thrust_allocation.specs.declared.allocation.Allocation.{Allocation}
 use Rattle.log_text.specs.Lines.{line}
 use Rattle.log_text.specs.declared.findings.Findings.{Findings}
 

@@ -21,7 +21,7 @@ use Rattle.certificate.specs.declared.outcome.Place.TheVariants.{Thruster, Sum, 
 use Rattle.telegram.specs.Telegrams.{telegram_text, reject_number}
 use Rattle.plant_core.specs.Board.{cells_of}
 use Rattle.plant_core.specs.Machine.{stand_after}
-use Rattle.plant_core.specs.declared.allocation.Allocation.{Allocation}
+use Rattle.thrust_allocation.specs.declared.allocation.Allocation.{Allocation}
 use Rattle.plant_core.specs.declared.call.Call.{Call}
 use Rattle.plant_core.specs.declared.call.Call.TheVariants.{Telegram, Note, Publish, Close}
 use Rattle.plant_core.specs.declared.call.Note.{Note as NoteKind}

@@ -8,9 +8,9 @@ ghost use Rattle.log_text.specs.Commands.{frames_of, part_text, thrust_body};
 ghost use Rattle.log_text.specs.Outcomes.{thrust_text, wrench_text};
 
 use crate::outcome::push_wrench;
-use no_memory::NoMemory;
 use dp_num::Fraction;
 use frame::{Body, write_frame};
+use no_memory::NoMemory;
 use plant_core::{Allocation, Call, Entry, Reply};
 use plant_model::parts::Thruster;
 use plant_model::plant::Plant;

@@ -209,6 +209,3 @@ pub fn log_head(alloc: Global, plant: &Plant) -> Result<String, NoMemory>
     let name = plant.name();
     Ok(format!(in alloc; "LOG,1,{name}\n")?)
 }
-
-#[cfg(test)]
-mod tests;

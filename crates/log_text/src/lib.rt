@@ -20,6 +20,3 @@ pub use law::logs_tell_histories;
 pub use outcome::outcome_text;
 pub use report::report_text;
 pub use values::check_json;
-
-#[cfg(test)]
-mod tests;

@@ -89,6 +89,3 @@ pub fn outcome_text(alloc: Global, _plant: &Plant, outcome: &Outcome) -> Result<
     push_outcome(&mut text, outcome)?;
     Ok(text)
 }
-
-#[cfg(test)]
-mod tests;

@@ -139,6 +139,3 @@ pub fn report_text(alloc: Global, core: &Core) -> Result<String, NoMemory>
     text.push_str("END\n")?;
     Ok(text)
 }
-
-#[cfg(test)]
-mod tests;

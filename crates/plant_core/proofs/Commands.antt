@@ -10,10 +10,10 @@ use Rattle.plant_model.specs.Versions.{Version, are_separate}
 use Rattle.plant_model.specs.declared.plant.Parts.{Parts}
 use Rattle.plant_model.specs.declared.status.Loss.TheVariants.{Intact}
 use Rattle.plant_model.specs.declared.status.Status.{Status}
-use Rattle.plant_core.specs.Allocations.{IsRight}
+use Rattle.thrust_allocation.specs.Allocations.{IsRight}
 use Rattle.plant_core.specs.Board.{IsJudged, IsPublishReply, asked_of, is_shown}
 use Rattle.plant_core.specs.Sensing.{IsPositionReply, late, latest_for, sensed}
-use Rattle.plant_core.specs.declared.allocation.Allocation.{Allocation}
+use Rattle.thrust_allocation.specs.declared.allocation.Allocation.{Allocation}
 use Rattle.plant_core.specs.declared.call.Reply.{Reply}
 use Rattle.plant_core.specs.declared.call.Reply.TheVariants.{Commanded}
 use Rattle.plant_core.specs.declared.state.State.{State}

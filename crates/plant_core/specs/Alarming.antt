@@ -9,7 +9,7 @@ use Rattle.plant_core.specs.Board.{holds}
 use Rattle.plant_core.specs.declared.alarming.Notice.{Notice}
 use Rattle.plant_core.specs.declared.alarming.Notice.TheVariants.{Nothing, Lost, Held, Short, Given}
 use Rattle.plant_core.specs.declared.alarming.Notice.TheVariants.{Acknowledged}
-use Rattle.plant_core.specs.declared.allocation.Allocation.{Allocation}
+use Rattle.thrust_allocation.specs.declared.allocation.Allocation.{Allocation}
 use Rattle.plant_core.specs.declared.call.Call.{Call}
 use Rattle.plant_core.specs.declared.call.Call.TheVariants as calls
 use Rattle.plant_core.specs.declared.call.Reply.{Reply}

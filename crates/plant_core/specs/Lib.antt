@@ -1,5 +1,4 @@
 pub mod Alarming
-pub mod Allocations
 pub mod Board
 pub mod Kept
 pub mod Laws
@@ -7,3 +6,4 @@ pub mod Machine
 pub mod Orders
 pub mod Sensing
 pub mod Switching
+pub use Rattle.thrust_allocation.specs.Allocations

@@ -9,8 +9,8 @@ use Rattle.plant_model.specs.declared.wrench.Wrench.{Wrench}
 use Rattle.plant_model.specs.declared.status.Loss.TheVariants.{Intact}
 use Rattle.certificate.specs.Losses.{question_after}
 use Rattle.wind_axes.specs.Wind.{wind_load}
-use Rattle.plant_core.specs.Allocations.{IsRight}
-use Rattle.plant_core.specs.declared.allocation.Allocation.{Allocation}
+use Rattle.thrust_allocation.specs.Allocations.{IsRight}
+use Rattle.thrust_allocation.specs.declared.allocation.Allocation.{Allocation}
 use Rattle.plant_core.specs.declared.call.Reply.{Reply}
 use Rattle.plant_core.specs.declared.call.Reply.TheVariants.{Commanded, Late, Taken}
 use Rattle.plant_core.specs.declared.state.State.{State}

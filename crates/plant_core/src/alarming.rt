@@ -3,13 +3,13 @@ ghost use Rattle.std.specs.Prelude.{◌≡◌, ◌<◌};
 ghost use Rattle.plant_core.specs.Alarming.{after_notice, alarms_after, notice_of};
 ghost use Rattle.plant_core.specs.Alarming.{notice_of_command, notice_of_taken, notice_of_verdict};
 
-use crate::allocation::Allocation;
 use crate::call::{Call, Reply};
 use crate::state::State;
 use alarm_log::{Alarms, Cause};
 use certificate::Outcome;
 use plant_model::limits::LAST_ALARM;
 use telegram::Telegram;
+use thrust_allocation::Allocation;
 
 /// What a call and its reply tell the alarms.
 #[derive(Clone, Copy, Debug, PartialEq, Eq)]

@@ -5,7 +5,6 @@ ghost use Rattle.plant_core.specs.Machine.{IsCall, IsReply, IsTelegramReply, ack
 ghost use Rattle.plant_core.specs.Machine.{after_call, after_telegram};
 ghost use Rattle.telegram.specs.Telegrams.{IsTelegram};
 
-use crate::allocation::Allocate;
 use crate::board::{cells, publish};
 use crate::call::{Call, Reply};
 use crate::orders::{manual, mode, set_point};
@@ -18,6 +17,7 @@ use alarm_log::Alarms;
 use pid::Fix;
 use plant_model::plant::Plant;
 use telegram::Telegram;
+use thrust_allocation::Allocate;
 
 /// The reply to the acknowledgement of the alarm of this number.
 fn acknowledged(alarms: &Alarms, number: u32) -> Reply

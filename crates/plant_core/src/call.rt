@@ -1,11 +1,11 @@
 //! Calls, their replies, and the entries of a history.
 
-use crate::allocation::Allocation;
 use certificate::{Outcome, Place};
 use frame::Damage;
 use plant_model::board::Cells;
 use plant_model::wrench::Wrench;
 use telegram::{Reject, Telegram};
+use thrust_allocation::Allocation;
 
 /// What a stream gave that isn't answered as a telegram.
 #[derive(Clone, Copy, Debug, PartialEq, Eq)]

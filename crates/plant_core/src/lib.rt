@@ -3,7 +3,6 @@
 #![tactic(auto)]
 
 mod alarming;
-mod allocation;
 mod answer;
 mod board;
 mod call;
@@ -13,7 +12,6 @@ mod sensing;
 mod state;
 mod switch;
 
-pub use allocation::{Allocate, Allocation};
 pub use call::{Call, Entry, Note, Reply};
 pub use certificate::{Outcome, Place};
 pub use machine::{
@@ -21,3 +19,4 @@ pub use machine::{
 };
 pub use plant_model::board::{Cell, Cells};
 pub use state::{State, Verdict};
+pub use thrust_allocation::{Allocate, Allocation};

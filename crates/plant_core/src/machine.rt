@@ -7,7 +7,6 @@ ghost use Rattle.plant_core.specs.Machine.{IsAllowed, IsCall, IsLegal, after_rep
 ghost use Rattle.plant_core.specs.Machine.{opening, stand_of, state_of};
 
 use crate::alarming::{alarm, notice_of};
-use crate::allocation::Allocate;
 use crate::answer::answer;
 use crate::board::cells;
 use crate::call::{Call, Entry, Reply};
@@ -22,6 +21,7 @@ use plant_model::status::Version;
 use plant_model::wrench::{Load, Wrench};
 use std::alloc::Global;
 use std::marker::Model;
+use thrust_allocation::Allocate;
 
 /// A plant with the history of the calls that it answered, which is legal for the plant and the limit of telegrams
 /// and notes. Contracts see these three.

@@ -7,13 +7,13 @@ ghost use Rattle.plant_core.specs.Sensing.{IsPositionReply, after_position, afte
 ghost use Rattle.plant_core.specs.Sensing.{latest_for, sensed, wind_reply};
 ghost use Rattle.telegram.specs.Telegrams.{IsWind};
 
-use crate::allocation::Allocate;
 use crate::call::Reply;
 use crate::state::State;
 use pid::{Fix, errors};
 use plant_model::plant::Plant;
 use plant_model::status::Version;
 use plant_model::wrench::separate;
+use thrust_allocation::Allocate;
 use wind_axes::wind_force;
 
 /// The last moment, where this moment isn't after it.

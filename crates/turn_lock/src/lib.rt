@@ -5,8 +5,6 @@
 mod keeps;
 mod pass;
 mod plays;
-#[cfg(test)]
-mod tests;
 mod turn;
 mod view;
 

@@ -1,5 +1,0 @@
-use Rattle.std.proofs.Common.{◌≡◌}
-use Rattle.alarm_log.proofs.tests.a_full_ring_loses_its_oldest.Given as goal
-
-abbrev pub invariant-loop-group : goal.invariant-loop-group
-invariant-loop-group g l = l.alarms.raised ≡ l.group

@@ -1,0 +1,8 @@
+-- What is read is within its ranges.
+use Rattle.std.proofs.Common.{sym}
+use Rattle.telegram.proofs.Exact.{text-of_telegram}
+use Rattle.machine_tests.proofs.machine.telegram_of.Goals as goal
+
+pub returns-in-Ok : goal.returns-in-Ok
+returns-in-Ok c =
+    (text-of_telegram c.in_ok-body.body c.in-Ok.telegram (sym c.in-Ok.ensures)).1

@@ -1,9 +1,0 @@
-use Rattle.std.proofs.Common.{◌≡◌, false}
-use Rattle.turn_lock.proofs.tests.add_all.Given as goal
-
-abbrev pub invariant-loop-number : goal.invariant-loop-number
-invariant-loop-number g l = record {
-  lock : l.pass.lock ≡ l.initial.pass.lock;
-  free : l.pass.holds ≡ false;
-  caller : l.pass.caller ≡ l.initial.pass.caller;
-}
