@@ -140,6 +140,3 @@ pub fn file_words(words: &[String]) -> [Option<usize>; 3]
         Err(_) => [None, None, None],
     }
 }
-
-#[cfg(test)]
-mod tests;

@@ -60,6 +60,3 @@ pub fn plant_from<A: Source>(alloc: Global, word: &str, source: &mut A) -> Resul
         Err(fault) => Err(RunStatus::Plant(fault)),
     }
 }
-
-#[cfg(test)]
-mod tests;

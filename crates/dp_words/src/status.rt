@@ -93,6 +93,3 @@ pub fn tell<E: Sink>(status: &RunStatus, err: &mut E)
 {
     let _ = send_all(err, status.line().bytes());
 }
-
-#[cfg(test)]
-mod tests;

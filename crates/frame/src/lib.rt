@@ -13,6 +13,3 @@ pub use body::{Body, MOST_BODY_BYTES};
 pub use framer::Framer;
 pub use item::{Damage, Item, MOST_FRAME_BYTES, frames_are_exact, written_frames_are_read};
 pub use writing::{MOST_FRAME_TEXT_BYTES, write_frame};
-
-#[cfg(test)]
-mod tests;

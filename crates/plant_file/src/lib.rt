@@ -16,6 +16,3 @@ mod unknown;
 
 pub use fault::{Key, MOST_KEY_BYTES, Part, Path, PlantFault, axis_text};
 pub use reading::{read_document, read_plant};
-
-#[cfg(test)]
-mod tests;

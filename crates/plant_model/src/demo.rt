@@ -226,27 +226,3 @@ pub fn demo() -> Plant
         opening: opening(),
     })
 }
-
-#[cfg(test)]
-mod tests {
-    use super::*;
-    use std::test::Fail;
-
-    #[test]
-    fn feeds_thrusters_from_their_sections(rt: HostRuntime) -> Result<(), Fail> {
-        let plant = demo();
-        let alloc = rt.alloc();
-        let sections = format!(in alloc; "{} {:?}", plant.name(), plant.sections())?;
-        assert_eq!(rt; sections.as_str(), "DEMO [\"A\", \"B\"]");
-        let ties = format!(in alloc; "{:?}", plant.ties())?;
-        assert_eq!(rt;
-            ties.as_str(),
-            "[Tie { name: \"T1\", first: 0, second: 1 }]"
-        );
-        for (thruster, place) in plant.thrusters().iter().zip(0u32..) {
-            assert_eq!(rt; thruster.section, place % 2);
-            assert_eq!(rt; thruster.frozen, None);
-        }
-        Ok(())
-    }
-}

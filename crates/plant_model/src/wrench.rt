@@ -36,19 +36,3 @@ fn differ_by_more(a: i32, b: i32, band: u32) -> bool
 {
     a.abs_diff(b) > band
 }
-
-#[cfg(test)]
-mod tests {
-    use super::*;
-
-    #[test]
-    fn a_band_holds_its_ends(rt: HostRuntime) {
-        let band = [15, 15, 10_000];
-        let at = |x, y, n| Wrench { x, y, n };
-        assert!(rt; !separate(at(20, 0, 0), at(6, 0, 0), band));
-        assert!(rt; !separate(at(15, -15, 10_000), at(0, 0, 0), band));
-        assert!(rt; separate(at(-16, 0, 0), at(0, 0, 0), band));
-        assert!(rt; separate(at(0, 16, 0), at(0, 0, 0), band));
-        assert!(rt; separate(at(0, 0, -10_001), at(0, 0, 0), band));
-    }
-}

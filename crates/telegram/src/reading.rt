@@ -1,11 +1,10 @@
 //! From bodies to telegrams.
-ghost use Rattle.std.specs.Prelude.{◌≡◌, ◌≤◌, ◌≤ℤ◌, ◌∷◌, [], pos, ℕ, List, Bool, Result, Ok, Err};
-ghost use Rattle.std.specs.Prelude.{MatchResult};
+ghost use Rattle.std.specs.Prelude.{◌≡◌, ◌∷◌, [], ℕ, List, Bool, Result, Ok, Err, MatchResult, drop};
 ghost use Rattle.telegram.specs.Numbers.{number_of};
-ghost use Rattle.telegram.specs.Telegrams.{telegram, made, fields, fields_left, natural_of};
+ghost use Rattle.telegram.specs.Telegrams.{telegram, made, fields, fields_left, natural_of, forms};
 ghost use Rattle.telegram.specs.Telegrams.{moment_of, angle_of, name_of, word_of, none, one, two};
 ghost use Rattle.telegram.specs.Telegrams.{three, four, position_of, wind_of, setpoint_of};
-ghost use Rattle.telegram.specs.Telegrams.{switch_of, mode_of, manual_of, ack_of, bar_of};
+ghost use Rattle.telegram.specs.Telegrams.{switch_of, mode_of, manual_of, ack_of, bar_of, read_by};
 ghost use Rattle.telegram.specs.declared.telegram.Reject.{Reject};
 ghost use Rattle.telegram.specs.declared.telegram.Telegram.{Telegram};
 ghost use Rattle.telegram.specs.declared.telegram.Telegram.TheVariants.{Board};
@@ -225,6 +224,43 @@ fn bar(rest: Option<&str>) -> Result<Telegram, Reject>
     })
 }
 
+/// The telegram of a kind that is no switch either.
+fn commanded(kind: &str, rest: Option<&str>) -> Result<Telegram, Reject>
+    ensures { result ≡ read_by (drop 6 forms) kind.now (fields_left rest.entry) }
+{
+    if kind == "MOD" {
+        mode(rest)
+    } else if kind == "MAN" {
+        manual(rest)
+    } else if kind == "ACK" {
+        ack(rest)
+    } else if kind == "BRD" {
+        board(rest)
+    } else if kind == "BAR" {
+        bar(rest)
+    } else {
+        Err(Reject::Kind)
+    }
+}
+
+/// The telegram of a kind that is no position, wind or set point: a switch of a part, or a further one.
+fn switched(kind: &str, rest: Option<&str>) -> Result<Telegram, Reject>
+    ensures { result ≡ read_by (drop 3 forms) kind.now (fields_left rest.entry) }
+{
+    if kind == "THR" {
+        let (name, selected) = switch(rest, "IN", "OUT")?;
+        Ok(Telegram::Thruster { name, selected })
+    } else if kind == "GEN" {
+        let (name, running) = switch(rest, "RUN", "STOP")?;
+        Ok(Telegram::Generator { name, running })
+    } else if kind == "TIE" {
+        let (name, closed) = switch(rest, "CLOSE", "OPEN")?;
+        Ok(Telegram::Tie { name, closed })
+    } else {
+        commanded(kind, rest)
+    }
+}
+
 /// The telegram of a body.
 ///
 /// The refusal is the first in this order: `Kind` where the first field is no telegram's, `Count`
@@ -240,26 +276,7 @@ pub fn read(body: &Body) -> Result<Telegram, Reject>
         wind(rest)
     } else if kind == "SET" {
         setpoint(rest)
-    } else if kind == "THR" {
-        let (name, selected) = switch(rest, "IN", "OUT")?;
-        Ok(Telegram::Thruster { name, selected })
-    } else if kind == "GEN" {
-        let (name, running) = switch(rest, "RUN", "STOP")?;
-        Ok(Telegram::Generator { name, running })
-    } else if kind == "TIE" {
-        let (name, closed) = switch(rest, "CLOSE", "OPEN")?;
-        Ok(Telegram::Tie { name, closed })
-    } else if kind == "MOD" {
-        mode(rest)
-    } else if kind == "MAN" {
-        manual(rest)
-    } else if kind == "ACK" {
-        ack(rest)
-    } else if kind == "BRD" {
-        board(rest)
-    } else if kind == "BAR" {
-        bar(rest)
     } else {
-        Err(Reject::Kind)
+        switched(kind, rest)
     }
 }

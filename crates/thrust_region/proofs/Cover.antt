@@ -6,7 +6,7 @@ use Rattle.std.proofs.Common.{arith}
 use Rattle.std.specs.Prelude.{filter}
 use Rattle.std.specs.List.{list_any, Contains}
 use Rattle.std.proofs.Math.Dec.{eqb, ltb}
-use Rattle.std.proofs.lemmas.Bool.{lt-ltb, ltb-true}
+use Rattle.std.proofs.lemmas.Bool.{lt-ltb, ltb-false, ltb-true}
 use Rattle.std.proofs.lemmas.Bool.Decides.{nat_tests}
 use Rattle.std.proofs.lemmas.Int.{by_lt_z}
 use Rattle.std.proofs.lemmas.List.{drop-map, length-map}
@@ -40,6 +40,14 @@ use Rattle.thrust_region.proofs.Triangles.{ahead_first, ahead_second, beneath, l
 use Rattle.thrust_region.proofs.Triangles.{lies_on_first, lies_on_second, natural}
 use Rattle.thrust_region.proofs.WedgeCounts.{AreTurning}
 use Rattle.thrust_region.proofs.WedgeParts.{wedges_part}
+
+-- ---- what tests of numbers tell
+
+none_left : (n : ℕ) → ltb 0 n ≡ false → n ≡ 0
+none_left n h = let most = ltb-false 0 n h in omega arith
+
+differ : (a b : ℕ) → eqb a b ≡ false → a ≢ b
+differ a b h = grind (arith, nat_tests)
 
 -- ---- what a run has, some piece has
 
@@ -288,7 +296,8 @@ module _ (ring : List Point) (thrust : Thrust) (q : ℤ) (lies : LiesIn ring thr
               (j : ℕ) → 1 ≤ j → j ≤ suc m → (b : Bool) → ltb j (suc m) ≡ b
               → pos 0 <ℤ cross (point_at ring (steps_on (length ring) start j)) a
           more g all j one low true h = all j one (let below = ltb-true j (suc m) h in omega arith)
-          more g all j one low false h = let same : j ≡ suc m = grind (arith, nat_tests)
+          more g all j one low false h =
+              let same : j ≡ suc m = let above = ltb-false j (suc m) h in omega arith
               in subst (λ (i : ℕ). pos 0 <ℤ cross (point_at ring (steps_on (length ring) start i))
               a) (sym same) g
 
@@ -458,7 +467,7 @@ module _ (ring : List Point) (sectors : List Sector) (thrust : Thrust) (q : ℤ)
           ))
       on_first t one covers none false h =
           let sector = sector_of n sectors t valid (one_of sectors t one) in
-          let zero_edges : edges_between n t.from edge ≡ 0 = grind (arith, nat_tests) in
+          let zero_edges = none_left (edges_between n t.from edge) h in
           begins_run t (one_of sectors t one)
           (edges_none n t.from edge sector.from angle.there zero_edges) none
 
@@ -490,13 +499,12 @@ module _ (ring : List Point) (sectors : List Sector) (thrust : Thrust) (q : ℤ)
           let sector = sector_of n sectors t valid (one_of sectors t one) in
           let step = edges_step n t.from edge next sector.from (edge_to_next n edge angle.there)
           (ltb-true 0 (edges_between n t.from next) h) in
-          let past : edges_between n t.from t.to ≤ edges_between n t.from next =
-          grind (arith, nat_tests) in
+          let past = ltb-false (edges_between n t.from next) (edges_between n t.from t.to) k in
           ends_run t (one_of sectors t one)
           (same_edges n t.from t.to next sector.from sector.to next_there (omega arith)) none
       on_second t one covers none false d h k =
           let sector = sector_of n sectors t valid (one_of sectors t one) in
-          let zero_edges : edges_between n t.from next ≡ 0 = grind (arith, nat_tests) in
+          let zero_edges = none_left (edges_between n t.from next) h in
           let same : t.from ≡ next = edges_none n t.from next sector.from next_there zero_edges in
           let last : edges_between n next edge + 1
           ≡ n = edges_last n edge next next_there angle.there (edge_to_next n edge angle.there)
@@ -547,7 +555,7 @@ cover_the_rest ring sectors thrust q is valid above lies free = by_test (eqb (le
           lies,
         )
     by_test false many =
-        let longer : length ring ≢ 2 = grind (arith, nat_tests) in
+        let longer = differ (length ring) 2 many in
         SomeOf-contains (λ piece. LiesIn piece thrust q) (cut ring sectors)
         (by_lt_z (pos 0) (dot (point_of thrust) (point_of thrust))
         (λ nonzero. nonzero_lies ring sectors thrust q is valid longer lies free nonzero)

@@ -4,7 +4,7 @@ ghost use Rattle.std.specs.Prelude.{◌==◌, ◌≢◌, IsTrue};
 ghost use Rattle.std.specs.List.{list_any};
 ghost use Rattle.plant_model.specs.Rings.{cross, cut, first_wedge, is_ring, are_sectors, point_at};
 ghost use Rattle.plant_model.specs.Rings.{run_from, wedges};
-ghost use Rattle.thrust_region.specs.Pieces.{points_of, all_points};
+ghost use Rattle.thrust_region.specs.Pieces.{all_points};
 ghost use Rattle.plant_model.specs.declared.limits.TheConstants.{MOST_PIECES};
 
 use crate::piece::piece_of;
@@ -147,73 +147,4 @@ pub fn cut_ring(ring: &Ring, sectors: &[Sector]) -> Pieces
         cut_round(points, sectors, &mut pieces);
     }
     pieces
-}
-
-#[cfg(test)]
-mod tests {
-    use super::*;
-
-    const AHEAD: Point = Point { x: 400, y: 0 };
-
-    const STARBOARD: Point = Point { x: 0, y: 400 };
-
-    const ASTERN: Point = Point { x: -400, y: 0 };
-
-    const PORT: Point = Point { x: 0, y: -400 };
-
-    fn ring_of(points: &[Point]) -> Ring
-        requires { length points.now ≤ MOST_RING_POINTS }
-        ensures { result.points.items ≡ points.now }
-    {
-        let mut ring = Ring::default();
-        ring.points.try_extend_from_slice(points).unwrap();
-        ring
-    }
-
-    #[test]
-    fn leaves_a_sector_out(rt: HostRuntime) {
-        let ring = ring_of(&[AHEAD, STARBOARD, ASTERN, PORT]);
-        let pieces = cut_ring(&ring, &[Sector { from: 0, to: 1 }]);
-        assert_eq!(rt; pieces.list.len(), 2);
-        assert_eq!(rt;
-            pieces.list[0].points.as_slice(),
-            [STARBOARD, ASTERN, PORT].as_slice()
-        );
-        assert_eq!(rt; pieces.list[1].points.as_slice(), [PORT, AHEAD].as_slice());
-    }
-
-    #[test]
-    fn cuts_a_whole_ring_at_half_a_turn(rt: HostRuntime) {
-        let pieces = cut_ring(&ring_of(&[AHEAD, STARBOARD, ASTERN, PORT]), &[]);
-        assert_eq!(rt; pieces.list.len(), 2);
-        assert_eq!(rt;
-            pieces.list[0].points.as_slice(),
-            [AHEAD, STARBOARD, ASTERN].as_slice()
-        );
-        assert_eq!(rt;
-            pieces.list[1].points.as_slice(),
-            [ASTERN, PORT, AHEAD].as_slice()
-        );
-    }
-
-    #[test]
-    fn keeps_a_line_and_a_single_place(rt: HostRuntime) {
-        let line = cut_ring(&ring_of(&[PORT, STARBOARD]), &[]);
-        assert_eq!(rt; line.list.len(), 1);
-        assert_eq!(rt;
-            line.list[0].points.as_slice(),
-            [PORT, STARBOARD].as_slice()
-        );
-        let port = Point { x: 1_000, y: -300 };
-        let starboard = Point { x: 1_000, y: 300 };
-        let astern = Point { x: -400, y: 0 };
-        let sectors = [Sector { from: 1, to: 2 }, Sector { from: 2, to: 0 }];
-        let rudder = cut_ring(&ring_of(&[port, starboard, astern]), &sectors);
-        assert_eq!(rt; rudder.list.len(), 2);
-        assert_eq!(rt;
-            rudder.list[0].points.as_slice(),
-            [port, starboard].as_slice()
-        );
-        assert_eq!(rt; rudder.list[1].points.as_slice(), [astern].as_slice());
-    }
 }

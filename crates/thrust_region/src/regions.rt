@@ -1,5 +1,5 @@
 //! The regions of all thrusters, and the choices of one piece of each.
-ghost use Rattle.std.specs.Prelude.{◌≡◌, ◌<◌, ◌≤◌, [], ◌∷◌, map, length};
+ghost use Rattle.std.specs.Prelude.{◌≡◌, ◌<◌, ◌≤◌, map, length};
 ghost use Rattle.std.specs.Prelude.{IsTrue};
 ghost use Rattle.std.specs.List.{list_all};
 ghost use Rattle.thrust_region.specs.Pieces.{points_of, all_points, are_thrusts};
@@ -61,46 +61,4 @@ pub fn choice(regions: &Regions, k: u32) -> Chosen
         rest %= others;
     }
     Chosen { pieces }
-}
-
-#[cfg(test)]
-mod tests {
-    use super::*;
-
-    const AHEAD: Point = Point { x: 400, y: 0 };
-
-    const ASTERN: Point = Point { x: -400, y: 0 };
-
-    const PORT: Point = Point { x: 0, y: -400 };
-
-    const STARBOARD: Point = Point { x: 0, y: 400 };
-
-    fn two_pieces(first: Point, second: Point) -> Pieces
-        ensures { all_points result ≡ (first ∷ []) ∷ (second ∷ []) ∷ [] }
-    {
-        let mut pieces = Pieces::default();
-        pieces.list.push(piece_of(&[first]));
-        pieces.list.push(piece_of(&[second]));
-        pieces
-    }
-
-    #[test]
-    fn numbers_choices_with_the_last_thruster_fastest(rt: HostRuntime) {
-        let mut list = ArrayVec::new();
-        list.push(two_pieces(AHEAD, ASTERN));
-        list.push(two_pieces(PORT, STARBOARD));
-        let regions = Regions {
-            list,
-            fixed: ArrayVec::new(),
-        };
-        assert_eq!(rt; choices(&regions), 4);
-        let second = choice(&regions, 1);
-        assert_eq!(rt; second.pieces.len(), 2);
-        assert_eq!(rt; second.pieces[0].points.as_slice(), [AHEAD].as_slice());
-        assert_eq!(rt; second.pieces[1].points.as_slice(), [STARBOARD].as_slice());
-        let third = choice(&regions, 2);
-        assert_eq!(rt; third.pieces.len(), 2);
-        assert_eq!(rt; third.pieces[0].points.as_slice(), [ASTERN].as_slice());
-        assert_eq!(rt; third.pieces[1].points.as_slice(), [PORT].as_slice());
-    }
 }

@@ -49,23 +49,3 @@ pub fn scaled(pieces: &Pieces, quarter: u32) -> Pieces
     }
     scaled
 }
-
-#[cfg(test)]
-mod tests {
-    use super::*;
-    use crate::piece::piece_of;
-
-    #[test]
-    fn halves_a_tunnel(rt: HostRuntime) {
-        let piece = piece_of(&[Point { x: 0, y: -200 }, Point { x: 0, y: 200 }]);
-        let half = scaled_piece(&piece, 2);
-        let ends = [Point { x: 0, y: -100 }, Point { x: 0, y: 100 }];
-        assert_eq!(rt; half.points.as_slice(), ends.as_slice());
-        let mut pieces = Pieces::default();
-        pieces.list.push(piece);
-        let nothing = scaled(&pieces, 0);
-        assert_eq!(rt; nothing.list.len(), 1);
-        let origins = [Point::default(), Point::default()];
-        assert_eq!(rt; nothing.list[0].points.as_slice(), origins.as_slice());
-    }
-}

@@ -1,7 +1,8 @@
-//! Plants, read from texts that differ from the demo plant's in one place.
+//! Plant files: the demo plant's, and such as differ from it in one place.
 
-use crate::{PlantFault, read_plant};
+use plant_file::{read_document, read_plant};
 use plant_model::demo::demo;
+use plant_model::limits::MOST_PLANT_BYTES;
 use std::alloc::{AllocError, Global};
 use std::test::Fail;
 
@@ -144,19 +145,17 @@ ring = [[400, 0], [0, 400], [-400, 0], [0, -400]]
 selected = true
 "#;
 
-/// What is read of the demo's text with other words in place of the first `old`: the fault, or
-/// `right`.
+/// The demo's text with other words in place of the first `old`.
 fn changed(alloc: Global, old: &str, new: &str) -> Result<String, Fail> {
     let (before, after) = DEMO.split_once(old).ok_or("the words stand in the text")?;
-    let text = format!(in alloc; "{before}{new}{after}")?;
-    fault(alloc, text.as_str())
+    Ok(format!(in alloc; "{before}{new}{after}")?)
 }
 
 /// The text of the fault, or `right`.
-fn fault(alloc: Global, text: &str) -> Result<String, Fail> {
-    match read_plant(alloc, text.as_bytes()) {
-        Ok(_) => Ok(String::from_str(alloc, "right")?),
-        Err(fault) => Ok(format!(in alloc; "{fault}")?),
+fn fault(alloc: Global, bytes: &[u8]) -> Result<String, AllocError> {
+    match read_plant(alloc, bytes) {
+        Ok(_) => String::from_str(alloc, "right"),
+        Err(fault) => format!(in alloc; "{fault}"),
     }
 }
 
@@ -169,6 +168,18 @@ fn with_azimuths(alloc: Global, count: u32) -> Result<String, Fail> {
     }
     text.push_str("[[group]]")?;
     text.push_str(after)?;
+    Ok(text)
+}
+
+/// The demo's text in this format and with so many more groups.
+fn with_groups(alloc: Global, format: &str, count: u32) -> Result<String, Fail> {
+    let mut text = changed(alloc, "format = 1", format)?;
+    for number in 0..count {
+        write!(
+            &mut text,
+            "[[group]]\nname = \"MORE{number}\"\nmembers = [\"A\"]\n"
+        )?;
+    }
     Ok(text)
 }
 
@@ -189,7 +200,7 @@ fn reads_the_demo_plant(rt: HostRuntime) -> Result<(), Fail> {
 #[test]
 fn tells_what_is_wrong_with_a_plant(rt: HostRuntime) -> Result<(), Fail> {
     let alloc = rt.alloc();
-    let cases: [(&str, &str, &str); 24] = [
+    let cases: [(&str, &str, &str); 25] = [
         ("name = \"B\"", "name = \"A\"", "5 section[1].name"),
         ("name = \"G1\"", "name = \"B\"", "5 generator[0].name"),
         ("name = \"GB\"", "name = \"GA\"", "5 group[1].name"),
@@ -220,6 +231,7 @@ fn tells_what_is_wrong_with_a_plant(rt: HostRuntime) -> Result<(), Fail> {
             "4 thruster[0].frozen",
         ),
         ("rated = 2000", "rated = 2000\nfrozen = [0, 100]", "right"),
+        ("rated = 2000", "rated = 2000\nfrozen = [-2000, 0]", "right"),
         (
             "[[400, 0], [0, 400], [-400, 0], [0, -400]]",
             "[[400, 0], [0, -400], [-400, 0], [0, 400]]",
@@ -260,30 +272,32 @@ fn tells_what_is_wrong_with_a_plant(rt: HostRuntime) -> Result<(), Fail> {
         ("format = 1", "format = 9", "4 format"),
     ];
     for (old, new, expected) in cases {
-        assert_eq!(rt; changed(alloc, old, new)?.as_str(), expected);
+        let text = changed(alloc, old, new)?;
+        assert_eq!(rt; fault(alloc, text.as_bytes())?.as_str(), expected);
     }
     Ok(())
 }
 
+/// Format 2 alone has barred pieces. The third thruster has two.
 #[test]
 fn tells_which_pieces_are_barred(rt: HostRuntime) -> Result<(), Fail> {
     let alloc = rt.alloc();
-    let cases: [(&str, &str, u16); 4] = [
-        ("barred = [2]", "12 thruster[2]", 0),
-        ("barred = [1, 1]", "12 thruster[2]", 0),
-        ("barred = [1]", "right", 2),
-        ("barred = [1, 0]", "right", 3),
+    let cases = [
+        ("barred = [0, 16]", Err("4 thruster[2].barred")),
+        ("barred = [0, 15]", Err("12 thruster[2]")),
+        ("barred = [2]", Err("12 thruster[2]")),
+        ("barred = [1, 1]", Err("12 thruster[2]")),
+        ("barred = [1]", Ok(2)),
+        ("barred = [1, 0]", Ok(3)),
     ];
-    let (_, after) = DEMO.split_once("format = 1").ok_or("there is a format")?;
-    let (front, back) = after.split_once("[0, -400]]").ok_or("there is a ring")?;
-    for (barred, expected, mask) in cases {
-        let text = format!(in alloc; "format = 2{front}[0, -400]]\n{barred}{back}")?;
-        match read_plant(alloc, text.as_bytes()) {
-            Ok(plant) => {
-                assert_eq!(rt; "right", expected);
-                assert_eq!(rt; plant.opening().barred[2], mask);
-            }
-            Err(fault) => assert_eq!(rt; format!(in alloc; "{fault}")?.as_str(), expected),
+    let text = changed(alloc, "format = 1", "format = 2")?;
+    let (front, back) = text.split_once("[0, -400]]").ok_or("there is a ring")?;
+    for (barred, expected) in cases {
+        let text = format!(in alloc; "{front}[0, -400]]\n{barred}{back}")?;
+        match (read_plant(alloc, text.as_bytes()), expected) {
+            (Ok(plant), Ok(mask)) => assert_eq!(rt; plant.opening().barred[2], mask),
+            (Err(fault), Err(told)) => assert_eq!(rt; format!(in alloc; "{fault}")?.as_str(), told),
+            _ => assert!(rt; false, "at {barred}"),
         }
     }
     Ok(())
@@ -292,9 +306,53 @@ fn tells_which_pieces_are_barred(rt: HostRuntime) -> Result<(), Fail> {
 #[test]
 fn counts_the_choices(rt: HostRuntime) -> Result<(), Fail> {
     let alloc = rt.alloc();
-    let six = with_azimuths(alloc, 4)?;
-    assert_eq!(rt; fault(alloc, six.as_str())?.as_str(), "right");
-    let seven = with_azimuths(alloc, 5)?;
-    assert_eq!(rt; fault(alloc, seven.as_str())?.as_str(), "9");
+    for (count, expected) in [(4, "right"), (5, "9")] {
+        let text = with_azimuths(alloc, count)?;
+        assert_eq!(rt; fault(alloc, text.as_bytes())?.as_str(), expected);
+    }
+    Ok(())
+}
+
+#[test]
+fn counts_the_groups(rt: HostRuntime) -> Result<(), Fail> {
+    let alloc = rt.alloc();
+    let cases = [
+        ("format = 1", 6, "right"),
+        ("format = 1", 14, "4 group[8]"),
+        ("format = 2", 14, "right"),
+        ("format = 2", 15, "4 group[16]"),
+    ];
+    for (format, count, expected) in cases {
+        let text = with_groups(alloc, format, count)?;
+        assert_eq!(rt; fault(alloc, text.as_bytes())?.as_str(), expected);
+    }
+    Ok(())
+}
+
+#[test]
+fn refuses_what_is_no_plant(rt: HostRuntime) -> Result<(), Fail> {
+    let alloc = rt.alloc();
+    let cases: [(&[u8], &str); 5] = [
+        (b"", "2 format"),
+        (b"format = 9", "4 format"),
+        (b"x = [", "1"),
+        (b"\xff", "1"),
+        (b"format = 1.0", "3 format"),
+    ];
+    for (bytes, expected) in cases {
+        assert_eq!(rt; fault(alloc, bytes)?.as_str(), expected);
+    }
+    for (count, expected) in [(MOST_PLANT_BYTES, "2 format"), (MOST_PLANT_BYTES + 1, "11")] {
+        let blank = vec![in alloc; b' '; count]?;
+        assert_eq!(rt; fault(alloc, &blank)?.as_str(), expected);
+    }
+    Ok(())
+}
+
+#[test]
+fn judges_the_keys_of_a_document_alone(rt: HostRuntime) -> Result<(), Fail> {
+    let alloc = rt.alloc();
+    let text = changed(alloc, "name = \"B\"", "name = \"A\"")?;
+    assert!(rt; read_document(alloc, text.as_bytes()).is_ok());
     Ok(())
 }

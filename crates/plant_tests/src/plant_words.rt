@@ -1,6 +1,10 @@
-use super::*;
+//! Plants that a word of the command line names.
+
 use dp_io::MemorySource;
-use plant_file::{Key, Part, Path};
+use dp_words::{RunStatus, plant_from};
+use plant_file::{Key, Part, Path, PlantFault};
+use plant_model::limits::MOST_PLANT_BYTES;
+use std::alloc::Global;
 use std::test::Fail;
 
 /// Why there is no plant where the plant file has these bytes, of which a read gives 7 at the most.

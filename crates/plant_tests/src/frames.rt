@@ -1,4 +1,9 @@
-use super::*;
+//! Lines of a stream, read and written.
+
+use frame::{
+    Body, Damage, Framer, Item, MOST_BODY_BYTES, MOST_FRAME_TEXT_BYTES, frames_are_exact,
+    write_frame, written_frames_are_read,
+};
 use std::alloc::{AllocError, Global};
 use std::test::Fail;
 

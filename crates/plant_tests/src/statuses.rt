@@ -1,6 +1,8 @@
-use super::*;
+//! The statuses of the program: their numbers and their lines.
+
 use dp_io::MemorySink;
-use plant_file::{Key, Part, Path};
+use dp_words::{RunStatus, tell};
+use plant_file::{Key, Part, Path, PlantFault};
 use std::test::Fail;
 
 #[test]

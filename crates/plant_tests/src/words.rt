@@ -1,4 +1,7 @@
-use super::*;
+//! The words of the command line.
+
+use dp_words::{Form, file_words, form_of};
+use plant_model::wrench::Wrench;
 use std::alloc::{AllocError, Global};
 use std::test::Fail;
 
