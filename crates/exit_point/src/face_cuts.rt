@@ -1,10 +1,11 @@
 //! The face on which a cut is reached, and the least cut of the face along what is left of the
 //! demand past a corner of it.
 ghost use Rattle.std.specs.Prelude.{◌≡◌, ◌≢◌, pos, ◌-ℤ◌, ◌*ℤ◌, ◌≤ℤ◌, ◌↔◌, ◌⊎◌, IsTrue};
+ghost use Rattle.std.specs.Prelude.{IfNone, IfSome};
 ghost use Rattle.plant_model.specs.Numbers.{IsWithin};
 ghost use Rattle.separation.specs.Directions.{IsDirection};
 ghost use Rattle.wrench_geometry.specs.declared.cut.TheConstants.{CUT_PARTS_BELOW};
-ghost use Rattle.wrench_geometry.specs.Vectors.{dot_of, zero_vector};
+ghost use Rattle.wrench_geometry.specs.Vectors.{dot_of, opposite_of, zero_vector};
 ghost use Rattle.wrench_geometry.specs.Wrenches.{AreImages, IsDemandVector, IsImage, IsSum};
 ghost use Rattle.exit_point.specs.Orders.{IsTilt};
 ghost use Rattle.exit_point.specs.Faces.{IsFaceAt, IsFaceCut, IsLeastAlong, IsNoMore};
@@ -246,13 +247,29 @@ fn least_along(sums: &Sums, face: &Face, cut: FaceCut, normal: Vec3) -> FaceCut
     ensures at_most { IsNoMore result cut }
     ensures at_most_normal { IsNoMoreAlong sums.now face.now result normal }
 {
-    let along = along(normal, face.rest);
+    match ahead_of(normal, face.rest) {
+        Some(u) => lesser(cut, cut_of(sums, face, u)),
+        None => cut,
+    }
+}
+
+/// The normal or its opposite, whichever is ahead of the rest. None where the normal is
+/// perpendicular to it.
+fn ahead_of(normal: Vec3, rest: Rest) -> Option<Vec3>
+    requires tilt { IsTilt normal }
+    requires rest { IsRest rest }
+    ensures none { IfNone result (dot_of normal (vector_of rest) ≡ pos 0) }
+    ensures either { IfSome result (λ u. (u ≡ normal) ⊎ (u ≡ opposite_of normal)) }
+    ensures tilt { IfSome result IsTilt }
+    ensures ahead { IfSome result (λ u. pos 1 ≤ℤ dot_of u (vector_of rest)) }
+{
+    let along = along(normal, rest);
     if along > 0 {
-        lesser(cut, cut_of(sums, face, normal))
+        Some(normal)
     } else if along < 0 {
-        lesser(cut, cut_of(sums, face, opposite(normal)))
+        Some(opposite(normal))
     } else {
-        cut
+        None
     }
 }
 
