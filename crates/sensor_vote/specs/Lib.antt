@@ -1,0 +1,4 @@
+pub mod Laws
+pub mod Medians
+pub mod References
+pub mod Rounds
