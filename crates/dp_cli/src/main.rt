@@ -4,23 +4,17 @@
 ghost use Rattle.std.specs.Prelude.{◌≡◌, drop, map, string_bytes, IfOk};
 ghost use Rattle.std.specs.Process.{exit_status};
 ghost use Rattle.std.specs.Vec.Iter.{into_iter_items};
-ghost use Rattle.dp_words.specs.Shown.{shown};
+ghost use Rattle.dp_io.specs.Shown.{writing};
 ghost use Rattle.dp_words.specs.Statuses.{IsTold};
-ghost use Rattle.dp_cli.specs.Runs.{EndsRun};
+ghost use Rattle.dp_sessions.specs.Runs.{EndsRun};
+ghost use Rattle.dp_sessions.specs.Sessions.{passed};
 ghost use Rattle.dp_words.specs.Statuses.{status_code};
 ghost use Rattle.dp_words.specs.Words.{word_at};
 ghost use Rattle.dp_words.specs.declared.status.RunStatus.{RunStatus as Status};
 
-mod check;
-mod findings;
-mod replay;
-mod run;
-mod session;
-mod writing;
-
 use dp_io::{Gate, LazyFile, NoGate, Sink, Source, StdErr, StdOut};
-use dp_words::{RunStatus, file_words, tell};
-use run::run;
+pub use dp_sessions::{check_call, replay_call, run};
+use dp_words::{RunStatus, WordsFault, file_words, tell};
 use std::alloc::{AllocError, Global};
 use std::env;
 use std::io::{self, ErrorKind};
@@ -57,7 +51,7 @@ fn main(rt: HostRuntime) -> ExitCode {
 fn no_arguments(error: &io::Error) -> RunStatus {
     match error.kind() {
         ErrorKind::OutOfMemory => RunStatus::NoMemory,
-        _ => RunStatus::Usage(3),
+        _ => RunStatus::Usage(WordsFault::OtherWords.number()),
     }
 }
 
@@ -82,7 +76,7 @@ fn word(words: &[String], place: Option<usize>) -> &str
 /// Tells the status, and gives its exit status.
 fn exit_at<E: Sink>(status: RunStatus, err: &mut E) -> ExitCode
     ensures exit { exit_status result ≡ status_code status }
-    ensures told { IsTold status (shown E.taken E.faults err.old err.new) }
+    ensures told { IsTold status (writing E.Sink err.old err.new) }
 {
     tell(&status, err);
     let code = status.code();
@@ -110,10 +104,13 @@ fn exit_of<
     gate: &G,
 ) -> ExitCode
     ensures { (status : Status) × (exit_status result ≡ status_code status)
-        × EndsRun (map string_bytes words.now) status first.old first.new second.old second.new
-        (shown A.left A.faults first.old first.new) (shown B.left B.faults second.old second.new)
-        (shown O.taken O.faults out.old out.new) (shown E.taken E.faults err.old err.new)
-        × (third.new ≡ third.old) }
+        × EndsRun (map string_bytes words.now) status (record {
+          first = passed A.Source first.old first.new;
+          second = passed B.Source second.old second.new;
+          third = passed C.Source third.old third.new;
+          out = writing O.Sink out.old out.new;
+          err = writing E.Sink err.old err.new;
+        }) }
 {
     let status = run(rt, alloc, words, first, second, third, out, err, gate);
     ExitCode::from(status.code())

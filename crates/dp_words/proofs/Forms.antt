@@ -15,9 +15,11 @@ use Rattle.plant_model.specs.declared.wrench.Wrench.{Wrench}
 use Rattle.telegram.specs.declared.telegram.Reject.{Reject}
 use Rattle.dp_words.specs.declared.form.Form.{Form}
 use Rattle.dp_words.specs.declared.form.Form.TheVariants.{Replay}
+use Rattle.dp_words.specs.declared.form.WordsFault.{WordsFault}
+use Rattle.dp_words.specs.declared.form.WordsFault.TheVariants.{UnknownCommand, OtherWords}
 use Rattle.dp_words.specs.declared.sorting.TheConstants.{KEPT_OPTIONS, KEPT_PLACES}
 use Rattle.dp_words.specs.Words.{Placed, placed, is_dash, is_dashes, is_option, options, places}
-use Rattle.dp_words.specs.Words.{replay_form, check_form, check_of, demand_of, json_of, form_of}
+use Rattle.dp_words.specs.Words.{replay_form, check_form, check_of, demand_of, json_of, written_form}
 use Rattle.dp_words.specs.Words.{NamesBelow}
 
 -- ---- the kept options and places are enough
@@ -49,7 +51,7 @@ check_kept all_options (plant ∷ x ∷ y ∷ n ∷ more ∷ rest) = refl
 
 -- another count of places than four is no form
 pub error_unless_four : (all_options all : List Placed) → length all ≢ 4
-    → Err 3 ≡ check_form all_options all
+    → Err OtherWords ≡ check_form all_options all
 error_unless_four all_options [] other = refl
 error_unless_four all_options (plant ∷ []) other = refl
 error_unless_four all_options (plant ∷ x ∷ []) other = refl
@@ -85,7 +87,7 @@ replay_below count [] (plant ∷ []) below = tt
 replay_below count [] (plant ∷ telegrams ∷ []) below =
     by (is_dash plant && is_dash telegrams)
   where
-    by : (b : Bool) → IfOk {E = ℕ} (if b then Err 3 else Ok (Replay plant.0 telegrams.0))
+    by : (b : Bool) → IfOk {E = WordsFault} (if b then Err OtherWords else Ok (Replay plant.0 telegrams.0))
         (λ form. NamesBelow form count)
     by true = tt
     by false = (below 0 plant (omega arith), below 1 plant (omega arith))
@@ -111,25 +113,25 @@ check_below count all_options (plant ∷ x ∷ y ∷ n ∷ more ∷ rest) below 
 
 command_below : (count : ℕ) (all_options all : List Placed) (replay check : Bool)
     → All (IsBelow count) all
-    → IfOk {E = ℕ} (if replay then replay_form all_options all
-    else (if check then check_form all_options all else Err 2)) (λ form. NamesBelow form count)
+    → IfOk {E = WordsFault} (if replay then replay_form all_options all
+    else (if check then check_form all_options all else Err UnknownCommand)) (λ form. NamesBelow form count)
 command_below count all_options all true check below = replay_below count all_options all below
 command_below count all_options all false true below = check_below count all_options all below
 command_below count all_options all false false below = tt
 
 -- the places of a form are among the words
 pub names_below : (words : List (List ℕ))
-    → IfOk (form_of words) (λ form. NamesBelow form (length words))
+    → IfOk (written_form words) (λ form. NamesBelow form (length words))
 names_below [] = tt
 names_below (command ∷ words) =
     let count : length words + 1 ≡ suc (length words) = omega arith in
-    subst (λ n. IfOk (form_of (command ∷ words)) (λ form. NamesBelow form n)) count
+    subst (λ n. IfOk (written_form (command ∷ words)) (λ form. NamesBelow form n)) count
     (command_below (length words + 1) (options (placed words)) (places (placed words))
     (bytes_eq command (codes "replay")) (bytes_eq command (codes "check"))
     (places_below (length words + 1) (placed words) (placed_below words)))
 
-pub names_of : {X : Type 0} (f : X → List ℕ) (words : List X) (form : Result Form ℕ)
-    → form ≡ form_of (map f words) → IfOk form (λ one. NamesBelow one (length words))
+pub names_of : {X : Type 0} (f : X → List ℕ) (words : List X) (form : Result Form WordsFault)
+    → form ≡ written_form (map f words) → IfOk form (λ one. NamesBelow one (length words))
 names_of f words form is =
     subst (λ count. IfOk form (λ one. NamesBelow one count)) (length-map words f)
     (subst (λ one. IfOk one (λ found. NamesBelow found (length (map f words)))) (sym is)
@@ -139,9 +141,9 @@ names_of f words form is =
 
 command-is : {X : Type 0} (f : X → List ℕ) (words rest : List X) (command : X) (name : List ℕ)
     → words ≡ command ∷ rest → name ≡ f command
-    → form_of (name ∷ map f rest) ≡ form_of (map f words)
+    → written_form (name ∷ map f rest) ≡ written_form (map f words)
 command-is f words rest command name split named =
-    ap (λ text. form_of (text ∷ map f rest)) named ∙ ap (λ xs. form_of (map f xs)) (sym split)
+    ap (λ text. written_form (text ∷ map f rest)) named ∙ ap (λ xs. written_form (map f xs)) (sym split)
 
 -- `replay`, of the kept options and places
 pub form_of_replay : {X : Type 0} (f : X → List ℕ) (words rest : List X) (command : X)
@@ -149,11 +151,11 @@ pub form_of_replay : {X : Type 0} (f : X → List ℕ) (words rest : List X) (co
     → words ≡ command ∷ rest → name ≡ f command → name ≡ codes "replay"
     → kept_options ≡ take KEPT_OPTIONS (options (placed (map f rest)))
     → kept ≡ take KEPT_PLACES (places (placed (map f rest)))
-    → replay_form kept_options kept ≡ form_of (map f words)
+    → replay_form kept_options kept ≡ written_form (map f words)
 form_of_replay f words rest command name kept_options kept split named is options_are places_are =
     ap₂ replay_form options_are places_are
     ∙ replay_kept (options (placed (map f rest))) (places (placed (map f rest)))
-    ∙ ap (λ text. form_of (text ∷ map f rest)) (sym is)
+    ∙ ap (λ text. written_form (text ∷ map f rest)) (sym is)
     ∙ command-is f words rest command name split named
 
 -- `check` likewise
@@ -162,9 +164,9 @@ pub form_of_check : {X : Type 0} (f : X → List ℕ) (words rest : List X) (com
     → words ≡ command ∷ rest → name ≡ f command → name ≡ codes "check"
     → kept_options ≡ take KEPT_OPTIONS (options (placed (map f rest)))
     → kept ≡ take KEPT_PLACES (places (placed (map f rest)))
-    → check_form kept_options kept ≡ form_of (map f words)
+    → check_form kept_options kept ≡ written_form (map f words)
 form_of_check f words rest command name kept_options kept split named is options_are places_are =
     ap₂ check_form options_are places_are
     ∙ check_kept (options (placed (map f rest))) (places (placed (map f rest)))
-    ∙ ap (λ text. form_of (text ∷ map f rest)) (sym is)
+    ∙ ap (λ text. written_form (text ∷ map f rest)) (sym is)
     ∙ command-is f words rest command name split named

@@ -1,5 +1,5 @@
+pub mod Faults
 pub mod PlantSource
-pub mod Shown
 pub mod Sorting
 pub mod Statuses
 pub mod Words

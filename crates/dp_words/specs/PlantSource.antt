@@ -7,15 +7,16 @@ use Rattle.plant_model.specs.declared.limits.TheConstants.{MOST_PLANT_BYTES}
 use Rattle.plant_model.specs.declared.plant.Parts.{Parts}
 use Rattle.plant_file.specs.PlantText.{plant_of}
 use Rattle.plant_file.specs.declared.fault.PlantFault.{PlantFault}
-use Rattle.dp_words.specs.Shown.{HasRisen, IsEmptied, Shown}
+use Rattle.dp_io.specs.Shown.{HasRisen, IsEmptied, NoneFailed, Shown}
 use Rattle.dp_words.specs.declared.status.RunStatus.{RunStatus}
 use Rattle.dp_words.specs.declared.status.RunStatus.TheVariants.{Plant, ReadFault, NoMemory}
 
 -- The bytes are those that the source gave in the call: all that it had, or more than a plant file
--- has.
+-- has. No read failed.
 pub record AreFileBytes (source : Shown) (bytes : List ℕ) : Type 0 where
   pub given : Gave source.before source.after bytes
   pub whole : IsEmptied source ⊎ (MOST_PLANT_BYTES < length bytes)
+  pub no_fault : NoneFailed source
 
 -- what the source gave is described so
 pub record FileSays (source : Shown) (answer : Result Parts PlantFault) : Type 0 where

@@ -2,7 +2,7 @@
 use Rattle.std.specs.Prelude.{ℕ, List, [], ◌∷◌, ◌++◌, ◌==◌, ◌⊎◌, if◌then◌else◌, codes}
 use Rattle.frame.specs.Frames.{line_feed}
 use Rattle.plant_file.specs.Texts.{fault_text}
-use Rattle.dp_words.specs.Shown.{HasRisen, Shown, Took}
+use Rattle.dp_io.specs.Shown.{HasRisen, Shown, Took}
 use Rattle.dp_words.specs.declared.status.RunStatus.{RunStatus}
 use Rattle.dp_words.specs.declared.status.RunStatus.TheVariants.{Clear, LossFound, Usage, Plant}
 use Rattle.dp_words.specs.declared.status.RunStatus.TheVariants.{ReadFault, WriteFault, NoMemory}

@@ -12,6 +12,8 @@ use Rattle.telegram.specs.Telegrams.{◌>>=◌, within_of}
 use Rattle.telegram.specs.declared.telegram.Reject.{Reject}
 use Rattle.dp_words.specs.declared.form.Form.{Form}
 use Rattle.dp_words.specs.declared.form.Form.TheVariants.{Check, Replay}
+use Rattle.dp_words.specs.declared.form.WordsFault.{WordsFault}
+use Rattle.dp_words.specs.declared.form.WordsFault.TheVariants.{NoWord, UnknownCommand, OtherWords}
 
 -- a word with its place in the command line
 abbrev pub Placed : Type 0
@@ -41,14 +43,21 @@ places words =
 abbrev pub is_dash : Placed → Bool
 is_dash word = bytes_eq word.1 (codes "-")
 
+-- the number of what is wrong with words
+abbrev pub kind_of : WordsFault → ℕ
+kind_of NoWord = 1
+kind_of UnknownCommand = 2
+kind_of OtherWords = 3
+
 -- `replay` has two places and no option, and at most one place is `-`
-abbrev pub replay_form : List Placed → List Placed → Result Form ℕ
-replay_form [] [] = Err 3
-replay_form [] (plant ∷ []) = Err 3
+abbrev pub replay_form : List Placed → List Placed → Result Form WordsFault
+replay_form [] [] = Err OtherWords
+replay_form [] (plant ∷ []) = Err OtherWords
 replay_form [] (plant ∷ telegrams ∷ []) =
-    if is_dash plant && is_dash telegrams then Err 3 else Ok (Replay plant.0 telegrams.0)
-replay_form [] (plant ∷ telegrams ∷ more ∷ rest) = Err 3
-replay_form (option ∷ more) all = Err 3
+    if is_dash plant && is_dash telegrams then Err OtherWords
+    else Ok (Replay plant.0 telegrams.0)
+replay_form [] (plant ∷ telegrams ∷ more ∷ rest) = Err OtherWords
+replay_form (option ∷ more) all = Err OtherWords
 
 -- whether `--json` is the option; neither where another is, or more than one
 abbrev pub json_of : List Placed → Option Bool
@@ -65,31 +74,42 @@ demand_of x y n = do
   Ok (record { x = surge; y = sway; n = yaw })
 
 -- a check of the plant at this place, where the demand and the option are right
-abbrev pub check_of : ℕ → Result Wrench Reject → Option Bool → Result Form ℕ
+abbrev pub check_of : ℕ → Result Wrench Reject → Option Bool → Result Form WordsFault
 check_of plant (Ok demand) (Some json) = Ok (Check plant demand json)
-check_of plant (Ok demand) None = Err 3
-check_of plant (Err reject) json = Err 3
+check_of plant (Ok demand) None = Err OtherWords
+check_of plant (Err reject) json = Err OtherWords
 
 -- `check` has four places, of which the last three are the demand, and may have the option
 -- `--json`; a `-` is no number, so that at most one place is `-`
-abbrev pub check_form : List Placed → List Placed → Result Form ℕ
-check_form options [] = Err 3
-check_form options (plant ∷ []) = Err 3
-check_form options (plant ∷ x ∷ []) = Err 3
-check_form options (plant ∷ x ∷ y ∷ []) = Err 3
+abbrev pub check_form : List Placed → List Placed → Result Form WordsFault
+check_form options [] = Err OtherWords
+check_form options (plant ∷ []) = Err OtherWords
+check_form options (plant ∷ x ∷ []) = Err OtherWords
+check_form options (plant ∷ x ∷ y ∷ []) = Err OtherWords
 check_form options (plant ∷ x ∷ y ∷ n ∷ []) =
     check_of plant.0 (demand_of x.1 y.1 n.1) (json_of options)
-check_form options (plant ∷ x ∷ y ∷ n ∷ more ∷ rest) = Err 3
+check_form options (plant ∷ x ∷ y ∷ n ∷ more ∷ rest) = Err OtherWords
 
--- the written form of the words, or what is wrong: 1 no word, 2 an unknown command, 3 other words
--- than its form
-abbrev pub form_of : List (List ℕ) → Result Form ℕ
-form_of [] = Err 1
-form_of (command ∷ words) =
+-- the written form of the words, or what is wrong with them: there is none, the command is unknown,
+-- or the others aren't of its form
+abbrev pub written_form : List (List ℕ) → Result Form WordsFault
+written_form [] = Err NoWord
+written_form (command ∷ words) =
     let rest = placed words in
     if bytes_eq command (codes "replay") then replay_form (options rest) (places rest)
     else
-    (if bytes_eq command (codes "check") then check_form (options rest) (places rest) else Err 2)
+    (if bytes_eq command (codes "check") then check_form (options rest) (places rest)
+    else Err UnknownCommand)
+
+-- the form, or the number of what is wrong
+abbrev pub numbered : Result Form WordsFault → Result Form ℕ
+numbered (Ok form) = Ok form
+numbered (Err fault) = Err (kind_of fault)
+
+-- the written form of the words, or the number of what is wrong with them: 1 there is no word, 2 the
+-- command is unknown, 3 the other words aren't of its form
+abbrev pub form_of : List (List ℕ) → Result Form ℕ
+form_of words = numbered (written_form words)
 
 -- the places that the form names are among that many words
 abbrev pub NamesBelow : Form → ℕ → Type 0

@@ -4,7 +4,8 @@ ghost use Rattle.plant_model.specs.Versions.{IsDemand};
 ghost use Rattle.telegram.specs.Numbers.{number_of, IsFromTo};
 ghost use Rattle.dp_words.specs.Sorting.{pair};
 ghost use Rattle.dp_words.specs.Words.{replay_form, json_of, demand_of, check_form, form_of};
-ghost use Rattle.dp_words.specs.Words.{plant_place, files_of, NamesBelow, AsksWithin};
+ghost use Rattle.dp_words.specs.Words.{written_form, kind_of, plant_place, files_of};
+ghost use Rattle.dp_words.specs.Words.{NamesBelow, AsksWithin};
 
 use crate::sorting::{Placed, sort_words};
 use plant_model::limits::{MOST_FORCE, MOST_MOMENT};
@@ -27,6 +28,30 @@ pub enum Form {
     },
 }
 
+/// What is wrong with words that have no written form.
+#[derive(Clone, Copy, Debug, PartialEq, Eq)]
+pub enum WordsFault {
+    /// There is no word.
+    NoWord,
+    /// The first word is no command.
+    UnknownCommand,
+    /// The other words aren't those of the command.
+    OtherWords,
+}
+
+impl WordsFault {
+    /// Its number: 1 for `NoWord`, 2 for `UnknownCommand` and 3 for `OtherWords`.
+    pub fn number(self) -> u32
+        ensures { result ≡ kind_of self }
+    {
+        match self {
+            WordsFault::NoWord => 1,
+            WordsFault::UnknownCommand => 2,
+            WordsFault::OtherWords => 3,
+        }
+    }
+}
+
 impl Form {
     /// The place of the word that names the plant.
     pub fn plant(self) -> usize
@@ -40,7 +65,7 @@ impl Form {
 }
 
 /// The form of `replay` with these options and places.
-fn replay_form(options: &[Placed<'_>], places: &[Placed<'_>]) -> Result<Form, u32>
+fn replay_form(options: &[Placed<'_>], places: &[Placed<'_>]) -> Result<Form, WordsFault>
     ensures form { result ≡ replay_form (map pair options.now) (map pair places.now) }
     ensures demand { IfOk result AsksWithin }
 {
@@ -49,7 +74,7 @@ fn replay_form(options: &[Placed<'_>], places: &[Placed<'_>]) -> Result<Form, u3
             plant: plant.place,
             telegrams: telegrams.place,
         }),
-        _ => Err(3),
+        _ => Err(WordsFault::OtherWords),
     }
 }
 
@@ -86,12 +111,12 @@ fn demand_of(x: &str, y: &str, n: &str) -> Result<Wrench, Reject>
 }
 
 /// The form of `check` with these options and places.
-fn check_form(options: &[Placed<'_>], places: &[Placed<'_>]) -> Result<Form, u32>
+fn check_form(options: &[Placed<'_>], places: &[Placed<'_>]) -> Result<Form, WordsFault>
     ensures form { result ≡ check_form (map pair options.now) (map pair places.now) }
     ensures demand { IfOk result AsksWithin }
 {
     let [plant, x, y, n] = places else {
-        return Err(3);
+        return Err(WordsFault::OtherWords);
     };
     match (demand_of(x.word, y.word, n.word), json_of(options)) {
         (Ok(demand), Some(json)) => Ok(Form::Check {
@@ -99,12 +124,30 @@ fn check_form(options: &[Placed<'_>], places: &[Placed<'_>]) -> Result<Form, u32
             demand,
             json,
         }),
-        _ => Err(3),
+        _ => Err(WordsFault::OtherWords),
     }
 }
 
-/// The form of the words that stand after the program's name, or what is wrong with them: 1 there is no word,
-/// 2 the first is no command, 3 the others aren't those of the command.
+/// The form of the words, or what is wrong with them.
+fn written_form(words: &[String]) -> Result<Form, WordsFault>
+    ensures form { result ≡ written_form (map string_bytes words.now) }
+    ensures within { IfOk result (λ form. NamesBelow form (length words.now)) }
+    ensures demand { IfOk result AsksWithin }
+{
+    let Some((command, words)) = words.split_first() else {
+        return Err(WordsFault::NoWord);
+    };
+    let sorted = sort_words(words);
+    let (options, places) = (sorted.options.as_slice(), sorted.places.as_slice());
+    match command.as_str() {
+        "replay" => replay_form(options, places),
+        "check" => check_form(options, places),
+        _ => Err(WordsFault::UnknownCommand),
+    }
+}
+
+/// The form of the words that stand after the program's name, or the number of what is wrong with them: 1 there is no
+/// word, 2 the first is no command, 3 the others aren't those of the command.
 ///
 /// The words after the command are read from left to right. The first `--` is dropped, and every word after it is
 /// a place. Before it, a word that starts with `-` and is longer than that is an option; every other word is a
@@ -116,15 +159,9 @@ pub fn form_of(words: &[String]) -> Result<Form, u32>
     ensures within { IfOk result (λ form. NamesBelow form (length words.now)) }
     ensures demand { IfOk result AsksWithin }
 {
-    let Some((command, words)) = words.split_first() else {
-        return Err(1);
-    };
-    let sorted = sort_words(words);
-    let (options, places) = (sorted.options.as_slice(), sorted.places.as_slice());
-    match command.as_str() {
-        "replay" => replay_form(options, places),
-        "check" => check_form(options, places),
-        _ => Err(2),
+    match written_form(words) {
+        Ok(form) => Ok(form),
+        Err(fault) => Err(fault.number()),
     }
 }
 

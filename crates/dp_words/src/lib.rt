@@ -7,6 +7,6 @@ mod plant_source;
 mod sorting;
 mod status;
 
-pub use form::{Form, file_words, form_of};
+pub use form::{Form, WordsFault, file_words, form_of};
 pub use plant_source::plant_from;
 pub use status::{RunStatus, tell};

@@ -1,7 +1,7 @@
 //! The plant that a word of the command line names.
-ghost use Rattle.std.specs.Prelude.{◌≡◌, ◌≤◌, ◌⊎◌, IfOk, IfErr, codes};
+ghost use Rattle.std.specs.Prelude.{◌≡◌, ◌≢◌, ◌≤◌, ◌⊎◌, Err, IfOk, IfErr, codes};
 ghost use Rattle.dp_words.specs.PlantSource.{AreFileBytes, FindsPlant};
-ghost use Rattle.dp_words.specs.Shown.{HasRisen, shown};
+ghost use Rattle.dp_io.specs.Shown.{HasRisen, NoneFailed, reading};
 
 use crate::status::RunStatus;
 use dp_io::Source;
@@ -18,9 +18,9 @@ const PIECE_BYTES: usize = 4_096;
 /// `ReadFault` or `NoMemory`.
 fn file_bytes<A: Source>(alloc: Global, source: &mut A) -> Result<Vec<u8>, RunStatus>
     ensures file { IfOk result
-        (λ bytes. AreFileBytes (shown A.left A.faults source.old source.new) bytes.items) }
+        (λ bytes. AreFileBytes (reading A.Source source.old source.new) bytes.items) }
     ensures failed { result ≡ Err RunStatus.ReadFault
-        → HasRisen (shown A.left A.faults source.old source.new) }
+        → HasRisen (reading A.Source source.old source.new) }
     ensures errors { IfErr result
         (λ status. (status ≡ RunStatus.ReadFault) ⊎ (status ≡ RunStatus.NoMemory)) }
     ensures none_failed { (result ≡ Err RunStatus.ReadFault)
@@ -46,8 +46,10 @@ fn file_bytes<A: Source>(alloc: Global, source: &mut A) -> Result<Vec<u8>, RunSt
 /// The plant that the word names: `demo` is the built-in one, and the source isn't read. Any other word stands for
 /// the source's bytes as a plant file. The error is `ReadFault`, the fault of the file, or `NoMemory`.
 pub fn plant_from<A: Source>(alloc: Global, word: &str, source: &mut A) -> Result<Plant, RunStatus>
-    ensures finds { FindsPlant word.now (shown A.left A.faults source.old source.new) result }
+    ensures finds { FindsPlant word.now (reading A.Source source.old source.new) result }
     ensures unread { word.now ≡ codes "demo" → source.new ≡ source.old }
+    ensures no_fault { result ≢ Err RunStatus.ReadFault → result ≢ Err RunStatus.NoMemory
+        → NoneFailed (reading A.Source source.old source.new) }
     ensures counted { A.faults source.old ≤ A.faults source.new }
 {
     if word == "demo" {

@@ -1,6 +1,6 @@
 //! The statuses that the program ends with.
 ghost use Rattle.std.specs.Prelude.{◌≡◌, ◌≤◌};
-ghost use Rattle.dp_words.specs.Shown.{shown};
+ghost use Rattle.dp_io.specs.Shown.{writing};
 ghost use Rattle.dp_words.specs.Statuses.{IsTold, status_code, status_text};
 
 use crate::line::Line;
@@ -88,7 +88,7 @@ impl RunStatus {
 
 /// Hands the status's line to the error output. A fault there changes nothing.
 pub fn tell<E: Sink>(status: &RunStatus, err: &mut E)
-    ensures told { IsTold status.now (shown E.taken E.faults err.old err.new) }
+    ensures told { IsTold status.now (writing E.Sink err.old err.new) }
     ensures counted { E.faults err.old ≤ E.faults err.new }
 {
     let _ = send_all(err, status.line().bytes());

@@ -1,5 +1,0 @@
-use Rattle.dp_cli.proofs.Losses.{VerdictsBelow}
-use Rattle.dp_cli.proofs.findings.losses_of.Given as goal
-
-abbrev pub invariant-loop-number : goal.invariant-loop-number
-invariant-loop-number l = VerdictsBelow l.plant l.demand l.number l.outcomes.items

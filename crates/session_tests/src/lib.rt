@@ -1,0 +1,23 @@
+//! Tests of whole sessions and checks over memory: what is written, and the status.
+#![tactic(auto)]
+
+#[cfg(test)]
+mod checks;
+#[cfg(test)]
+mod commands;
+#[cfg(test)]
+mod faults;
+#[cfg(test)]
+mod limits;
+#[cfg(test)]
+mod memory;
+#[cfg(test)]
+mod plant_files;
+#[cfg(test)]
+mod sessions;
+#[cfg(test)]
+mod ships;
+#[cfg(test)]
+mod tables;
+#[cfg(test)]
+mod texts;
