@@ -1,4 +1,6 @@
 //! Sums of lists, and demands.
+ghost use Rattle.std.specs.Prelude.{◌≤ℤ◌};
+ghost use Rattle.plant_model.specs.Numbers.{IsWithin};
 ghost use Rattle.plant_model.specs.declared.limits.TheConstants.{FARTHEST_LEVER, MOST_THRUST};
 ghost use Rattle.wrench_geometry.specs.Wrenches.{IsDemandVector, IsPointWithin};
 
@@ -18,15 +20,22 @@ const LONG: [(i32, i32); 2] = [(0, 2_000), (0, -2_000)];
 const WIDE: [(i32, i32); 3] = [(2_000, 0), (0, 2_000), (-2_000, 0)];
 
 /// The vector with these components, each brought within the limits of a demand.
-pub(crate) fn at(x: i64, y: i64, z: i64) -> Vec3
+pub(crate) fn at(x: i32, y: i32, z: i32) -> Vec3
     ensures { IsDemandVector result }
 {
-    let (force, moment) = (i64::from(MOST_FORCE), i64::from(MOST_MOMENT));
     Vec3 {
-        x: x.clamp(-force, force),
-        y: y.clamp(-force, force),
-        z: z.clamp(-moment, moment),
+        x: within(x, MOST_FORCE),
+        y: within(y, MOST_FORCE),
+        z: within(z, MOST_MOMENT),
     }
+}
+
+/// The number, brought within so far of zero.
+fn within(number: i32, most: i32) -> i64
+    requires { 0 ≤ℤ most }
+    ensures { IsWithin most result }
+{
+    i64::from(number.clamp(-most, most))
 }
 
 fn lever_at(place: (i32, i32)) -> Point
