@@ -1,5 +1,5 @@
 //! Sums of lists, and demands.
-ghost use Rattle.std.specs.Prelude.{◌≤ℤ◌};
+ghost use Rattle.std.specs.Prelude.{pos, ◌≤ℤ◌};
 ghost use Rattle.plant_model.specs.Numbers.{IsWithin};
 ghost use Rattle.plant_model.specs.declared.limits.TheConstants.{FARTHEST_LEVER, MOST_THRUST};
 ghost use Rattle.wrench_geometry.specs.Wrenches.{IsDemandVector, IsPointWithin};
@@ -32,7 +32,7 @@ pub(crate) fn at(x: i32, y: i32, z: i32) -> Vec3
 
 /// The number, brought within so far of zero.
 fn within(number: i32, most: i32) -> i64
-    requires { 0 ≤ℤ most }
+    requires { pos 0 ≤ℤ most }
     ensures { IsWithin most result }
 {
     i64::from(number.clamp(-most, most))
