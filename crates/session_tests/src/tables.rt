@@ -26,7 +26,7 @@ const SECOND_ANSWER: &str = "C POS,2000,-80,0,0 = COMMANDED,1,6,0,0,1,1,0,1,0,0,
 
 /// What a session writes that answers this many of the two positions, and after them has this log.
 fn answered(alloc: Global, positions: u32, log: &str, notes: u32) -> Result<String, Fail> {
-    let report = held(alloc, positions.min(1), positions + notes)?;
+    let report = held(alloc, positions.min(1), positions.saturating_add(notes))?;
     let mut commands = String::new(alloc);
     let mut answers = String::new(alloc);
     if positions > 0 {
