@@ -1,0 +1,5 @@
+pub mod Adding
+pub mod Chains
+pub mod Fronts
+pub mod Places
+pub mod Shots
