@@ -23,6 +23,7 @@ pub const DISPLAYS: usize = 16;
 
 /// The one writer of what displays show. To a contract it is which displays they are, their base
 /// and the list that it published last. It can't be dropped: `end` ends it.
+// Each `Shot` takes the place of another, so the bound always holds.
 pub struct GlanceWriter<T: Shows>
 where
     Shot<T>: Absorb<Shot<T>, State = Shot<T>>,
