@@ -8,6 +8,7 @@ ghost use Rattle.plant_model.specs.Names.{is_name, is_name_byte};
 use crate::limits::MOST_NAME_BYTES;
 use arrayvec::ArrayString;
 use short_text::{Alphabet, short_text};
+use std::alloc::AllocError;
 use std::fmt;
 use std::marker::Model;
 
@@ -63,6 +64,14 @@ impl Name {
         ensures named { IsTrue (is_name self.now) }
     {
         self.text.as_str().as_bytes()
+    }
+}
+
+impl Clone for Name {
+    ghost is_clone = { λ name other. other ≡ name };
+
+    fn clone(&self) -> Result<Self, AllocError> {
+        Ok(Name { text: self.text })
     }
 }
 

@@ -8,7 +8,7 @@ use crate::thrust::{Pieces, Point, Ring, Sector};
 use arrayvec::ArrayVec;
 
 /// A bus tie: it joins two sections of the switchboard where it is closed.
-#[derive(Debug, Default, Drop)]
+#[derive(Clone, Debug, Default, Drop)]
 pub struct Tie {
     pub name: Name,
     /// The two sections.
@@ -17,7 +17,7 @@ pub struct Tie {
 }
 
 /// A generator.
-#[derive(Debug, Default, Drop)]
+#[derive(Clone, Debug, Default, Drop)]
 pub struct Generator {
     pub name: Name,
     /// The section that it feeds.
@@ -27,7 +27,7 @@ pub struct Generator {
 }
 
 /// A thruster.
-#[derive(Debug, Default, Drop)]
+#[derive(Clone, Debug, Default, Drop)]
 pub struct Thruster {
     pub name: Name,
     /// The section that feeds it.
@@ -71,7 +71,7 @@ impl Default for Member {
 }
 
 /// A redundancy group: the parts that one failure takes away together.
-#[derive(Debug, Default, Drop)]
+#[derive(Clone, Debug, Default, Drop)]
 pub struct Group {
     pub name: Name,
     /// At least one member.

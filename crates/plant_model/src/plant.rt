@@ -1,5 +1,5 @@
 //! A whole plant.
-ghost use Rattle.std.specs.Prelude.{◌≡◌, IsTrue};
+ghost use Rattle.std.specs.Prelude.{◌≡◌, IfOk, IsTrue};
 ghost use Rattle.plant_model.specs.Plants.{is_plant};
 
 use crate::controller::{Gains, WindRow};
@@ -10,10 +10,11 @@ use crate::name::Name;
 use crate::parts::{Generator, Group, Thruster, Tie};
 use crate::status::Status;
 use arrayvec::ArrayVec;
+use std::alloc::AllocError;
 use std::marker::Model;
 
 /// What a plant is made of.
-#[derive(Debug, Drop)]
+#[derive(Clone, Debug, Drop)]
 pub struct Parts {
     pub name: Name,
     /// How far a demand may move along each axis before a new version is made: kN, kN and kN·dm.
@@ -61,6 +62,14 @@ impl Plant {
         ensures { result ≡ parts }
     {
         Plant { parts }
+    }
+
+    /// Another plant of the same parts.
+    pub fn copied(&self) -> Result<Plant, AllocError>
+        ensures { IfOk result (λ plant. plant ≡ self.now) }
+    {
+        let parts = self.parts.clone()?;
+        Ok(Plant { parts })
     }
 
     /// What the plant is made of, which fits together.

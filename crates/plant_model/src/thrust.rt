@@ -14,7 +14,7 @@ pub struct Point {
 }
 
 /// The border of what a thruster can give at full power. Its points are numbered by their places, from 0.
-#[derive(Debug, Default, Drop)]
+#[derive(Clone, Debug, Default, Drop)]
 pub struct Ring {
     pub points: ArrayVec<Point, MOST_RING_POINTS>,
 }
@@ -28,13 +28,13 @@ pub struct Sector {
 }
 
 /// A convex part of what a thruster can give: the hull of the points and the origin.
-#[derive(Debug, Default, Drop)]
+#[derive(Clone, Debug, Default, Drop)]
 pub struct Piece {
     pub points: ArrayVec<Point, MOST_PIECE_POINTS>,
 }
 
 /// The pieces of a thruster.
-#[derive(Debug, Default, Drop)]
+#[derive(Clone, Debug, Default, Drop)]
 pub struct Pieces {
     pub list: ArrayVec<Piece, MOST_PIECES>,
 }
