@@ -1,8 +1,6 @@
 //! Sines, turned axes, and the wind of the demo plant.
 
-use plant_model::controller::WindRow;
 use plant_model::demo::wind::WIND;
-use plant_model::limits::WIND_ROWS;
 use plant_model::wrench::Load;
 use wind_axes::{cosine, rotate, sine, wind_force};
 
@@ -29,29 +27,11 @@ fn a_point_to_the_north_of_a_vessel_that_heads_east(rt: HostRuntime) {
     assert_eq!(rt; rotate(100, 100, 3000), (136, 36));
 }
 
-fn demo_table() -> [WindRow; WIND_ROWS] {
-    let mut table = [WindRow::default(); WIND_ROWS];
-    for (i, row) in table.iter_mut().enumerate() {
-        let angle = 1000 * i as u32;
-        row.x = (-cosine(angle)).div_euclid(4);
-        row.y = (-sine(angle)).div_euclid(2);
-    }
-    table
-}
-
-#[test]
-fn the_demo_has_this_table(rt: HostRuntime) {
-    for (row, found) in demo_table().iter().zip(&WIND) {
-        assert_eq!(rt; found, row);
-    }
-}
-
 #[test]
 fn wind_of_the_demo(rt: HostRuntime) {
-    let table = demo_table();
-    assert_eq!(rt; wind_force(&table, 120, 9000), Load { x: 0, y: -72, n: 0 });
+    assert_eq!(rt; wind_force(&WIND, 120, 9000), Load { x: 0, y: -72, n: 0 });
     assert_eq!(rt;
-        wind_force(&table, 120, 4500),
+        wind_force(&WIND, 120, 4500),
         Load {
             x: -26,
             y: -51,
@@ -59,7 +39,7 @@ fn wind_of_the_demo(rt: HostRuntime) {
         }
     );
     assert_eq!(rt;
-        wind_force(&table, 1000, 35_500),
+        wind_force(&WIND, 1000, 35_500),
         Load {
             x: -2481,
             y: 438,

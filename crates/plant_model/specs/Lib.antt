@@ -1,5 +1,6 @@
 pub mod Demo
 pub mod Lies
+pub mod Limits
 pub mod Names
 pub mod Numbers
 pub mod Plants

@@ -1,5 +1,6 @@
 //! The limits of plants, telegrams and sessions. No other crate writes these numbers: code, definitions and proofs
 //! cite the names. The limit of a body is `frame`'s, `MOST_BODY_BYTES`, since `frame` stands below.
+ghost use Rattle.plant_model.specs.Limits.{AreLimits};
 
 /// The sections of a plant: 1 to this many.
 pub const MOST_SECTIONS: usize = 8;
@@ -89,3 +90,8 @@ pub const LAST_ALARM: u32 = u32::MAX;
 pub const MOST_WIND_SPEED: u32 = 1_000;
 /// The rows of a wind table, one for each ten degrees.
 pub const WIND_ROWS: usize = 36;
+
+/// The law of limits: each is the number that stands above, in its unit. Calling it does nothing.
+pub fn limits_are_told()
+    ensures { AreLimits }
+{}

@@ -1,7 +1,7 @@
 -- What the calls of angles and of the wind mean. An angle is in centidegrees, and a sine in
 -- ten-thousandths.
-use Rattle.std.specs.Prelude.{ℕ, ℤ, pos, ◌+◌, ◌-◌, ◌*◌, ◌/◌, ◌%◌, ◌+ℤ◌, ◌-ℤ◌, ◌*ℤ◌, neg_ℤ, nat_le}
-use Rattle.std.specs.Prelude.{if◌then◌else◌, List, unwrap_or, slice_get}
+use Rattle.std.specs.Prelude.{ℕ, zero, suc, ℤ, pos, ◌+◌, ◌-◌, ◌*◌, ◌/◌, ◌%◌, ◌+ℤ◌, ◌-ℤ◌, ◌*ℤ◌, neg_ℤ, nat_le}
+use Rattle.std.specs.Prelude.{◌≡◌, if◌then◌else◌, List, [], ◌∷◌, unwrap_or, slice_get}
 use Rattle.dp_num.specs.Quotients.{floor_quotient}
 use Rattle.plant_model.specs.declared.limits.TheConstants.{HALF_TURN, QUARTER_TURN, WHOLE_TURN}
 use Rattle.plant_model.specs.declared.limits.TheConstants.{WIND_ROWS}
@@ -62,3 +62,26 @@ wind_load table speed angle =
       y = component_of (coefficient_between here.y next.y rest) speed;
       n = component_of (coefficient_between here.n next.n rest) speed;
     }
+
+-- ---- numbers
+
+-- the sine's constants and the spacing of a wind table's rows, as numbers
+pub record AreConstants : Type 0 where
+  pub whole_sine : WHOLE_SINE ≡ pos 10000
+  pub sine_factor : SINE_FACTOR ≡ 40000
+  pub sine_square : SINE_SQUARE ≡ 405000000
+  pub row_spacing : ROW_SPACING ≡ 1000
+
+-- The row of a wind table at an angle for which the wind takes so much off the vessel as the cosine and
+-- the sine say: minus a quarter of the one and minus half of the other, and no moment.
+abbrev pub row_of : ℕ → WindRow
+row_of angle = record {
+  x = floor_quotient (neg_ℤ (cosine_of angle)) (pos 4);
+  y = floor_quotient (neg_ℤ (sine_of angle)) (pos 2);
+  n = pos 0;
+}
+
+-- so many of these rows, a thousand centidegrees apart, from this angle on
+abbrev pub rows_from : ℕ → ℕ → List WindRow
+rows_from zero angle = []
+rows_from (suc count) angle = row_of angle ∷ rows_from count (angle + 1000)

@@ -1,7 +1,8 @@
 //! Sines, cosines and turned axes. Angles are in centidegrees.
 ghost use Rattle.std.specs.Prelude.{◌≡◌, pos, ◌<◌, ◌≤◌, ◌+ℤ◌, ◌*ℤ◌, ◌≤ℤ◌};
 ghost use Rattle.plant_model.specs.Numbers.{IsWithin};
-ghost use Rattle.wind_axes.specs.Wind.{half_turn_sine, sine_of, cosine_of, ahead_of, starboard_of};
+ghost use Rattle.wind_axes.specs.Wind.{AreConstants, ahead_of, cosine_of, half_turn_sine, sine_of};
+ghost use Rattle.wind_axes.specs.Wind.{starboard_of};
 ghost use Rattle.dp_num.specs.Quotients.{floor_quotient};
 
 use dp_num::floor_div;
@@ -83,3 +84,9 @@ fn weighted(a: i64, p: i32, b: i64, q: i32) -> i64
     let sum = a as i128 * p as i128 + b as i128 * q as i128;
     floor_div(sum, WHOLE_SINE as i128) as i64
 }
+
+/// The law of constants: the sine's factor and square, what a whole sine is, and how far a wind table's rows are apart,
+/// as numbers. Calling it does nothing.
+pub fn constants_are_told()
+    ensures { AreConstants }
+{}

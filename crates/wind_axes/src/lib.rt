@@ -5,5 +5,5 @@
 mod angle;
 mod wind;
 
-pub use angle::{MOST_OFFSET, WHOLE_SINE, cosine, rotate, sine};
-pub use wind::wind_force;
+pub use angle::{MOST_OFFSET, WHOLE_SINE, constants_are_told, cosine, rotate, sine};
+pub use wind::{demo_wind_is_of_sines, wind_force};

@@ -1,6 +1,8 @@
 //! What the wind does to the hull.
 ghost use Rattle.std.specs.Prelude.{◌≡◌, ◌<◌, ◌≤◌};
-ghost use Rattle.wind_axes.specs.Wind.{coefficient_between, component_of, row_at, wind_load};
+ghost use Rattle.plant_model.specs.Demo.{demo_parts};
+ghost use Rattle.wind_axes.specs.Wind.{coefficient_between, component_of, row_at, rows_from};
+ghost use Rattle.wind_axes.specs.Wind.{wind_load};
 
 use dp_num::floor_div;
 use plant_model::controller::WindRow;
@@ -49,3 +51,9 @@ fn component(here: i32, next: i32, rest: u32, speed: u32) -> i64
     let coefficient = floor_div(sum, ROW_SPACING as i128);
     floor_div(coefficient * (speed * speed) as i128, 1_000_000) as i64
 }
+
+/// The law of the built-in plant's wind table: at every ten degrees it has minus a quarter of the cosine and minus half
+/// of the sine, rounded down, and no moment. Calling it does nothing.
+pub fn demo_wind_is_of_sines()
+    ensures { demo_parts.wind ≡ rows_from 36 0 }
+{}
