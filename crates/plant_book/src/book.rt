@@ -61,23 +61,21 @@ impl<A: Allocate, G: Gate> Model for Book<A, G> {
 }
 
 impl<A: Allocate + Drop, G: Gate + Drop> Book<A, G> {
-    /// The plant at its opening, and the root pass, which has seen nothing. The plant is given twice:
-    /// one goes behind the lock, the other is shown without a turn. The limit of telegrams and notes
-    /// is at most [`MOST_ENTRIES`]. Positions are answered with what the allocator gives,
-    /// and the gate is told of each ticket for the turn.
+    /// The plant at its opening, and the root pass, which has seen nothing. The limit of telegrams
+    /// and notes is at most [`MOST_ENTRIES`]. Positions are answered with what the allocator gives,
+    /// and the gate is told of each ticket for the turn. `NoMemory` where memory ran out.
     pub fn start<R: Wait>(
         rt: &R,
         alloc: Global,
         plant: Plant,
-        shown: Plant,
         limit: u32,
         allocator: A,
         gate: G,
     ) -> Result<(Book<A, G>, BookPass), NoMemory>
         requires limit { limit ≤ MOST_ENTRIES }
-        requires shown { shown ≡ plant }
         ensures { IfOk result (λ r. IsStarted plant limit r.0 r.1) }
     {
+        let shown = plant.copied()?;
         let core = Core::start(alloc, plant, limit)?;
         let (value, glance) = PlantValue::start(alloc, core)?;
         match Turn::start(alloc, value) {
@@ -111,7 +109,6 @@ impl<A: Allocate + Drop, G: Gate + Drop> Book<A, G> {
         ensures ended { All (λ pass. entries_by caller_of pass.caller result.history ≡ pass.mine)
             root.shown.ended }
     {
-        let BookPass { pass, displays: _ } = root;
         let Book {
             turn,
             plant: _,
@@ -120,7 +117,7 @@ impl<A: Allocate + Drop, G: Gate + Drop> Book<A, G> {
             allocator: _,
             gate: _,
         } = self;
-        turn.close(pass).end(rt)
+        turn.close(root.into_pass()).end(rt)
     }
 }
 
@@ -165,8 +162,7 @@ impl<A: Allocate, G: Gate> Book<A, G> {
         ensures rest { IsAtRest root.new.shown }
         ensures of { IsOf self.now root.new }
     {
-        let BookPass { pass, displays: _ } = other;
-        self.turn.join(&mut root.pass, pass);
+        self.turn.join(&mut root.pass, other.into_pass());
     }
 
     /// A pass learns what another has seen; the other stays as it was. It takes no memory, so the
