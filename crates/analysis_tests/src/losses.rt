@@ -33,10 +33,7 @@ const ALL_ACROSS: [Point; 2] = [Point { x: 0, y: -200 }, Point { x: 0, y: 200 }]
 /// Whether the thruster has one piece, with these points.
 fn has_piece(regions: &Regions, place: usize, points: &[Point]) -> bool {
     match regions.list.as_slice().get(place) {
-        Some(pieces) => match pieces.list.as_slice() {
-            [piece] => piece.points.as_slice() == points,
-            _ => false,
-        },
+        Some(region) => region.len() == 1 && region.piece(0).points.as_slice() == points,
         None => false,
     }
 }
@@ -44,10 +41,11 @@ fn has_piece(regions: &Regions, place: usize, points: &[Point]) -> bool {
 /// Whether the thruster has two pieces, with these points.
 fn has_pieces(regions: &Regions, place: usize, first: &[Point], second: &[Point]) -> bool {
     match regions.list.as_slice().get(place) {
-        Some(pieces) => match pieces.list.as_slice() {
-            [a, b] => a.points.as_slice() == first && b.points.as_slice() == second,
-            _ => false,
-        },
+        Some(region) => {
+            region.len() == 2
+                && region.piece(0).points.as_slice() == first
+                && region.piece(1).points.as_slice() == second
+        }
         None => false,
     }
 }
@@ -77,7 +75,8 @@ fn a_lost_section_takes_what_it_feeds(rt: HostRuntime) {
 
 #[test]
 fn thrusters_share_the_power_that_is_left(rt: HostRuntime) {
-    let regions = surviving(&ship(), &CLOSED, G1);
+    let plant = ship();
+    let regions = surviving(&plant, &CLOSED, G1);
     assert_eq!(rt; regions.list.len(), 4);
     assert!(rt; has_piece(&regions, 0, &HALF));
     assert_eq!(rt; choices(&regions), 4);
@@ -85,7 +84,8 @@ fn thrusters_share_the_power_that_is_left(rt: HostRuntime) {
 
 #[test]
 fn an_island_without_power_leaves_the_origin(rt: HostRuntime) {
-    let regions = surviving(&ship(), &OPEN, G1);
+    let plant = ship();
+    let regions = surviving(&plant, &OPEN, G1);
     assert!(rt; has_piece(&regions, 0, &[]));
     assert!(rt; has_piece(&regions, 1, &ALL_ACROSS));
     assert_eq!(rt; choices(&regions), 2);
@@ -99,13 +99,15 @@ const TWO_GENERATORS: Status = Status {
 
 #[test]
 fn three_quarters_of_the_power_give_three_quarters_of_the_thrust(rt: HostRuntime) {
-    let regions = surviving(&ship(), &TWO_GENERATORS, Loss::Intact);
+    let plant = ship();
+    let regions = surviving(&plant, &TWO_GENERATORS, Loss::Intact);
     assert!(rt; has_piece(&regions, 0, &THREE_QUARTERS));
 }
 
 #[test]
 fn the_quarter_is_that_after_the_loss(rt: HostRuntime) {
-    let regions = surviving(&ship(), &TWO_GENERATORS, PORT_ALONE);
+    let plant = ship();
+    let regions = surviving(&plant, &TWO_GENERATORS, PORT_ALONE);
     assert!(rt; has_piece(&regions, 0, &ALL_ACROSS));
     assert!(rt; has_piece(&regions, 2, &[]));
     assert_eq!(rt; regions.fixed.as_slice(), [ORIGIN; 4].as_slice());
@@ -113,7 +115,8 @@ fn the_quarter_is_that_after_the_loss(rt: HostRuntime) {
 
 #[test]
 fn forbidden_sectors_stay_forbidden(rt: HostRuntime) {
-    let regions = surviving(&guarded_ship(), &FIRST, Loss::Intact);
+    let plant = guarded_ship();
+    let regions = surviving(&plant, &FIRST, Loss::Intact);
     assert_eq!(rt; choices(&regions), 2);
     let guarded = has_pieces(&regions, 0, &[STARBOARD, ASTERN, PORT], &[PORT, AHEAD]);
     assert!(rt; guarded);
@@ -121,7 +124,8 @@ fn forbidden_sectors_stay_forbidden(rt: HostRuntime) {
 
 #[test]
 fn two_propellers_with_rudders_leave_eight_choices(rt: HostRuntime) {
-    let regions = surviving(&ship_of_five(), &FIVE, Loss::Intact);
+    let plant = ship_of_five();
+    let regions = surviving(&plant, &FIVE, Loss::Intact);
     assert_eq!(rt; regions.list.len(), 5);
     assert_eq!(rt; choices(&regions), 8);
     let ahead = [Point { x: 1_000, y: -300 }, Point { x: 1_000, y: 300 }];
@@ -131,7 +135,8 @@ fn two_propellers_with_rudders_leave_eight_choices(rt: HostRuntime) {
 
 #[test]
 fn six_azimuths_leave_64_choices(rt: HostRuntime) {
-    let regions = surviving(&ship_of_six(), &SIX, Loss::Intact);
+    let plant = ship_of_six();
+    let regions = surviving(&plant, &SIX, Loss::Intact);
     assert_eq!(rt; choices(&regions), 64);
     assert!(rt;
         has_pieces(
@@ -175,23 +180,35 @@ fn no_other_thruster_stays(rt: HostRuntime) {
     assert!(rt; nothing_stays(&plant, &BUT_FIRST, BOW1_ALONE));
 }
 
-/// What the plant of five can give with its azimuth alone, of which these pieces are barred.
-fn with_barred(mask: u16) -> Regions {
+/// How the plant of five stands with its azimuth alone, of which these pieces are barred.
+fn with_barred(mask: u16) -> Status {
     let mut status = THIRD;
     status.barred[2] = mask;
-    surviving(&ship_of_five(), &status, Loss::Intact)
+    status
+}
+
+/// Whether the azimuth has one piece then, with these points.
+fn leaves_piece(mask: u16, points: &[Point]) -> bool {
+    let plant = ship_of_five();
+    has_piece(
+        &surviving(&plant, &with_barred(mask), Loss::Intact),
+        2,
+        points,
+    )
 }
 
 #[test]
 fn barred_pieces_are_left_out(rt: HostRuntime) {
-    assert!(rt; has_piece(&with_barred(1), 2, &[ASTERN, PORT, AHEAD]));
-    assert!(rt; has_piece(&with_barred(2), 2, &[AHEAD, STARBOARD, ASTERN]));
-    assert!(rt; has_piece(&with_barred(3), 2, &[]));
+    assert!(rt; leaves_piece(1, &[ASTERN, PORT, AHEAD]));
+    assert!(rt; leaves_piece(2, &[AHEAD, STARBOARD, ASTERN]));
+    assert!(rt; leaves_piece(3, &[]));
 }
 
 #[test]
 fn a_barred_piece_halves_the_choices(rt: HostRuntime) {
+    let plant = ship_of_five();
     for (mask, count) in [(0, 2), (1, 1), (2, 1), (3, 1)] {
-        assert_eq!(rt; choices(&with_barred(mask)), count, "at {mask}");
+        let regions = surviving(&plant, &with_barred(mask), Loss::Intact);
+        assert_eq!(rt; choices(&regions), count, "at {mask}");
     }
 }

@@ -4,11 +4,11 @@ ghost use Rattle.plant_model.specs.declared.limits.TheConstants.{MOST_PIECE_POIN
 ghost use Rattle.thrust_region.specs.Pieces.{all_points};
 
 use arrayvec::ArrayVec;
-use plant_model::limits::{MOST_PIECE_POINTS, MOST_RING_POINTS};
+use plant_model::limits::{MOST_PIECE_POINTS, MOST_RING_POINTS, QUARTERS};
 use plant_model::thrust::{Piece, Pieces, Point, Ring, Sector};
 use std::alloc::{AllocError, Global};
 use std::test::Fail;
-use thrust_region::{Regions, choice, choices, cut_ring, scaled};
+use thrust_region::{Region, Regions, choice, choices, cut_ring, scaled};
 
 const AHEAD: Point = Point { x: 400, y: 0 };
 
@@ -109,9 +109,10 @@ fn two_pieces(first: Point, second: Point) -> Pieces
 
 #[test]
 fn numbers_choices_with_the_last_thruster_fastest(rt: HostRuntime) -> Result<(), Fail> {
+    let (along, across) = (two_pieces(AHEAD, ASTERN), two_pieces(PORT, STARBOARD));
     let mut list = ArrayVec::new();
-    list.push(two_pieces(AHEAD, ASTERN));
-    list.push(two_pieces(PORT, STARBOARD));
+    list.push(Region::of(&along, QUARTERS, 0));
+    list.push(Region::of(&across, QUARTERS, 0));
     let regions = Regions {
         list,
         fixed: ArrayVec::new(),

@@ -14,8 +14,9 @@ use Rattle.plant_model.specs.declared.thrust.Point.{Point}
 use Rattle.plant_model.specs.Plants.{choices_of as plant_choices, is_thruster, piece_points}
 use Rattle.thrust_region.specs.Choices.{choices_of}
 use Rattle.thrust_region.specs.Scaling.{scaled_point, scaled_points}
-use Rattle.redundancy_groups.specs.Surviving.{free, left_at, or_alone, pieces_at, quarter_at}
-use Rattle.redundancy_groups.proofs.Free.{free_few}
+use Rattle.thrust_region.specs.Left.{free, or_alone}
+use Rattle.thrust_region.proofs.Free.{free_few}
+use Rattle.redundancy_groups.specs.Surviving.{left_at, pieces_at, quarter_at}
 use Rattle.redundancy_groups.proofs.Plants.{some_pieces}
 
 -- there are some, and no more than so many

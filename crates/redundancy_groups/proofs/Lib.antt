@@ -1,6 +1,5 @@
 pub mod Choices
 pub mod Fed
-pub mod Free
 pub mod Loads
 pub mod Numbered
 pub mod Places

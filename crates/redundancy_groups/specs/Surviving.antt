@@ -1,7 +1,6 @@
 -- What each thruster can give after a loss.
-use Rattle.std.specs.Prelude.{ℕ, List, [], ◌∷◌, map, filter, slice_index, slice_index_or, unwrap_or}
-use Rattle.std.specs.Prelude.{Bool, false, ◌&&◌, ◌==◌, if◌then◌else◌}
-use Rattle.std.specs.Int.{bit_at}
+use Rattle.std.specs.Prelude.{ℕ, List, [], ◌∷◌, map, slice_index, slice_index_or, unwrap_or}
+use Rattle.std.specs.Prelude.{Bool, false, ◌&&◌, if◌then◌else◌}
 use Rattle.std.specs.List.{enumerate_from}
 use Rattle.plant_model.specs.declared.parts.Member.TheVariants.{Thruster as ThrusterMember}
 use Rattle.plant_model.specs.declared.parts.Thruster.{Thruster}
@@ -13,7 +12,7 @@ use Rattle.plant_model.specs.declared.thrust.Point.{Point}
 use Rattle.plant_model.specs.Plants.{piece_points}
 use Rattle.plant_model.specs.Rings.{origin}
 use Rattle.bus_topology.specs.Shares.{quarter_of, share_on}
-use Rattle.thrust_region.specs.Scaling.{scaled_points}
+use Rattle.thrust_region.specs.Left.{left_of}
 use Rattle.redundancy_groups.specs.Connections.{leads_to}
 use Rattle.redundancy_groups.specs.Standing.{is_live_after, is_lost, standing_of}
 
@@ -38,21 +37,9 @@ abbrev pub fixed_at : Parts → Status → Loss → ℕ × Thruster → Point
 fixed_at p status loss (place, t) =
     if fails_alone p status loss (place, t) then unwrap_or t.frozen origin else origin
 
--- the pieces that the mask doesn't bar, in their order; bit k of it stands for piece k
-abbrev pub free : ℕ → List (List Point) → List (List Point)
-free mask pieces =
-    map (λ numbered. numbered.1)
-    (filter (λ numbered. bit_at mask numbered.0 == 0) (enumerate_from 0 pieces))
-
--- one piece without points, where there is none
-abbrev pub or_alone : List (List Point) → List (List Point)
-or_alone [] = [] ∷ []
-or_alone (piece ∷ pieces) = piece ∷ pieces
-
 -- a thruster at so many quarters: its pieces without the barred ones, where it gives anything
 abbrev pub left_at : ℕ → ℕ → Thruster → List (List Point)
-left_at quarter mask t =
-    if quarter == 0 then [] ∷ [] else or_alone (free mask (scaled_points quarter (piece_points t)))
+left_at quarter mask t = left_of quarter mask (piece_points t)
 
 -- what a thruster can give, as the plant stands and with these masks: nothing where it isn't
 -- selected

@@ -1,23 +1,22 @@
 //! What each thruster can give after a loss.
-ghost use Rattle.std.specs.Prelude.{◌≡◌, ◌<◌, ◌≤◌, [], ◌∷◌, length, map, slice_index_or, true};
+ghost use Rattle.std.specs.Prelude.{◌≡◌, ◌<◌, ◌≤◌, length, map, slice_index_or, true};
 ghost use Rattle.std.specs.Prelude.{false, IsTrue};
 ghost use Rattle.std.specs.List.{list_all};
 ghost use Rattle.bus_topology.specs.Islands.{IsIslandMap, IsLive};
 ghost use Rattle.plant_model.specs.Plants.{is_plant, is_thruster};
 ghost use Rattle.redundancy_groups.specs.Standing.{IsLossOf, standing_of};
-ghost use Rattle.redundancy_groups.specs.Surviving.{fixed_at, fixed_of, free, left_at, lists_of};
-ghost use Rattle.redundancy_groups.specs.Surviving.{pieces_at};
-ghost use Rattle.thrust_region.specs.Pieces.{all_points, are_thrusts, points_of};
+ghost use Rattle.redundancy_groups.specs.Surviving.{fixed_at, fixed_of, lists_of, pieces_at};
+ghost use Rattle.thrust_region.specs.Pieces.{all_points, are_thrusts};
 
 use crate::stands::{is_live, is_lost, standing};
 use arrayvec::ArrayVec;
 use bus_topology::{IslandMap, islands, quarter, share};
-use plant_model::limits::{MOST_SECTIONS, MOST_THRUSTERS, QUARTERS};
+use plant_model::limits::{MOST_SECTIONS, MOST_THRUSTERS};
 use plant_model::parts::{Member, Thruster};
 use plant_model::plant::{Parts, Plant};
 use plant_model::status::{Loss, Standing, Status};
-use plant_model::thrust::{Piece, Pieces, Point};
-use thrust_region::{Regions, scaled};
+use plant_model::thrust::Point;
+use thrust_region::{Region, Regions};
 
 /// What each thruster can give after the loss: its pieces, at as many quarters of their thrust as
 /// its share of the power allows, without those that the status bars. One that isn't selected any
@@ -25,7 +24,7 @@ use thrust_region::{Regions, scaled};
 /// is the origin alone. A thruster that is itself lost, was selected and stands on a section that
 /// is still live stays at its frozen thrust, if it has one; the fixed thrust of any other is zero.
 /// A group's number is below the count of groups.
-pub fn surviving(plant: &Plant, status: &Status, loss: Loss) -> Regions
+pub fn surviving<'a>(plant: &'a Plant, status: &Status, loss: Loss) -> Regions<'a>
     requires { IsLossOf plant.now loss }
     ensures list { map all_points result.list.items ≡ lists_of plant.now status.now loss }
     ensures fixed { result.fixed.items ≡ fixed_of plant.now status.now loss }
@@ -66,12 +65,12 @@ fn fixed_at(parts: &Parts, status: &Status, loss: Loss, place: usize, thruster: 
 }
 
 /// The pieces of each thruster, as the plant stands after the loss.
-fn lists(
-    plant: &Plant,
+fn lists<'a>(
+    plant: &'a Plant,
     status: &Status,
     standing: &Standing,
     loss: Loss,
-) -> ArrayVec<Pieces, MOST_THRUSTERS>
+) -> ArrayVec<Region<'a>, MOST_THRUSTERS>
     requires { standing.now ≡ standing_of plant.now status.now loss }
     ensures value { map all_points result.items ≡ lists_of plant.now status.now loss }
     ensures within { IsTrue (list_all are_thrusts (map all_points result.items)) }
@@ -93,14 +92,14 @@ fn few_sections(plant: &Plant)
 }
 
 /// What the thruster can give, as the plant stands. One that is selected stands on a live section.
-fn pieces_at(
+fn pieces_at<'a>(
     plant: &Plant,
     status: &Status,
     standing: &Standing,
     islands: &IslandMap,
     place: usize,
-    thruster: &Thruster,
-) -> Pieces
+    thruster: &'a Thruster,
+) -> Region<'a>
     requires islands { IsIslandMap plant.now standing.now islands.now.of }
     requires place { place < MOST_THRUSTERS }
     requires thruster { IsTrue (is_thruster thruster.now) }
@@ -111,56 +110,9 @@ fn pieces_at(
     ensures within { IsTrue (are_thrusts (all_points result)) }
 {
     if !standing.selected[place] {
-        return alone();
+        return Region::default();
     }
     let share = share(plant, standing, islands, thruster.section);
     let quarter = quarter(share, &thruster.thresholds);
-    left_at(quarter, status.barred[place], thruster)
-}
-
-/// The thruster's pieces that aren't barred, at so many quarters.
-fn left_at(quarter: u32, mask: u16, thruster: &Thruster) -> Pieces
-    requires quarter { quarter ≤ QUARTERS }
-    requires thruster { IsTrue (is_thruster thruster.now) }
-    ensures value { all_points result ≡ left_at quarter mask thruster.now }
-    ensures within { IsTrue (are_thrusts (all_points result)) }
-{
-    if quarter == 0 {
-        return alone();
-    }
-    let free = free(&scaled(&thruster.pieces, quarter), mask);
-    if free.list.is_empty() {
-        return alone();
-    }
-    free
-}
-
-/// The pieces that the mask doesn't bar.
-fn free(pieces: &Pieces, mask: u16) -> Pieces
-    ensures { all_points result ≡ free mask (all_points pieces.now) }
-{
-    let mut free = Pieces::default();
-    for (k, piece) in pieces.list.as_slice().iter().enumerate() {
-        if mask >> k & 1 == 0 {
-            free.list.push(copy_of(piece));
-        }
-    }
-    free
-}
-
-fn copy_of(piece: &Piece) -> Piece
-    ensures { points_of result ≡ points_of piece.now }
-{
-    let mut copy = Piece::default();
-    copy.points.try_extend_from_slice(&piece.points).unwrap();
-    copy
-}
-
-/// The origin alone.
-fn alone() -> Pieces
-    ensures { all_points result ≡ [] ∷ [] }
-{
-    let mut alone = Pieces::default();
-    alone.list.push(Piece::default());
-    alone
+    Region::of(&thruster.pieces, quarter, status.barred[place])
 }

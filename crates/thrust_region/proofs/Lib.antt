@@ -1,5 +1,6 @@
 pub mod Avoid
 pub mod Digits
+pub mod Free
 pub mod Cover
 pub mod Counts
 pub mod Cuts

@@ -1,6 +1,6 @@
 -- The points of pieces are points of their ring.
-use Rattle.std.proofs.Common.{◌≡◌, ◌∙◌, ap, sym, refl, ℕ, ◌≢◌, List, [], ◌∷◌, length, Bool, true}
-use Rattle.std.proofs.Common.{false, subst, arith}
+use Rattle.std.proofs.Common.{◌≡◌, ◌∙◌, ap, sym, refl, ◌≢◌, List, [], ◌∷◌, length, Bool, true}
+use Rattle.std.proofs.Common.{false, arith}
 use Rattle.std.specs.List.{list_all}
 use Rattle.std.proofs.Math.Dec.{eqb}
 use Rattle.std.proofs.lemmas.Bool.{and_from}

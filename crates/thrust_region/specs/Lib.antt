@@ -1,4 +1,5 @@
 pub mod Choices
 pub mod Exact
+pub mod Left
 pub mod Pieces
 pub mod Scaling

@@ -5,10 +5,12 @@
 mod cutting;
 mod exact;
 mod piece;
+mod region;
 mod regions;
 mod scaling;
 
 pub use cutting::cut_ring;
 pub use exact::pieces_are_exact;
+pub use region::Region;
 pub use regions::{Chosen, Regions, choice, choices};
 pub use scaling::scaled;

@@ -6,17 +6,17 @@ ghost use Rattle.thrust_region.specs.Pieces.{points_of, all_points, are_thrusts}
 ghost use Rattle.thrust_region.specs.Choices.{choices_of, choice_of};
 ghost use Rattle.plant_model.specs.declared.limits.TheConstants.{MOST_CHOICES};
 
-use crate::piece::piece_of;
+use crate::region::Region;
 use arrayvec::ArrayVec;
 use plant_model::limits::{MOST_CHOICES, MOST_THRUSTERS};
-use plant_model::thrust::{Piece, Pieces, Point};
+use plant_model::thrust::{Piece, Point};
 
 /// What each thruster can give, in the order of thrusters. There are 1 to [`MOST_CHOICES`] choices of one piece for
 /// each thruster, and all points of pieces are within the greatest thrust.
 #[derive(Debug, Drop)]
-pub struct Regions {
+pub struct Regions<'a> {
     /// The pieces of each thruster.
-    pub list: ArrayVec<Pieces, MOST_THRUSTERS>,
+    pub list: ArrayVec<Region<'a>, MOST_THRUSTERS>,
     /// What each thruster gives beside a thrust in its piece: a frozen thruster its thrust, any other one nothing.
     pub fixed: ArrayVec<Point, MOST_THRUSTERS>,
     pub ghost some: { 1 ≤ choices_of (map all_points list.items) },
@@ -38,8 +38,8 @@ pub fn choices(regions: &Regions) -> u32
     ensures few { result ≤ MOST_CHOICES }
 {
     let mut product = 1;
-    for pieces in regions.list.as_slice() {
-        product *= pieces.list.len() as u32;
+    for region in regions.list.as_slice() {
+        product *= region.len() as u32;
     }
     product
 }
@@ -56,8 +56,8 @@ pub fn choice(regions: &Regions, k: u32) -> Chosen
     let mut others = choices(regions);
     let mut rest = k;
     for region in regions.list.as_slice() {
-        others /= region.list.len() as u32;
-        pieces.push(piece_of(&region.list[(rest / others) as usize].points));
+        others /= region.len() as u32;
+        pieces.push(region.piece((rest / others) as usize));
         rest %= others;
     }
     Chosen { pieces }

@@ -19,7 +19,8 @@ fn quarter_of(coordinate: i32, quarter: u32) -> i32
     (coordinate * quarter as i32).div_euclid(QUARTERS as i32)
 }
 
-fn scaled_piece(piece: &Piece, quarter: u32) -> Piece
+/// The piece at so many quarters of its thrust.
+pub fn scaled_piece(piece: &Piece, quarter: u32) -> Piece
     requires points { IsTrue (list_all is_ring_point (points_of piece.now)) }
     requires quarter { quarter ≤ QUARTERS }
     ensures points { points_of result ≡ map (scaled_point quarter) (points_of piece.now) }

@@ -2,8 +2,12 @@ use Rattle.std.proofs.Common.{◌≡◌, ◌∙◌, ap, sym, ℕ, ◌∷◌, [],
 use Rattle.std.proofs.Common.{Bool}
 use Rattle.bus_topology.specs.Shares.{quarter_of}
 use Rattle.redundancy_groups.specs.Surviving.{left_at, quarter_at}
+use Rattle.redundancy_groups.proofs.Plants.{whole_pieces}
 use Rattle.redundancy_groups.proofs.Ways.{share_is}
 use Rattle.redundancy_groups.proofs.regions.pieces_at.Goals as goal
+
+pub of-requires-clause-points : goal.of-requires-clause-points
+of-requires-clause-points c = whole_pieces c.args.thruster.now c.requires.thruster
 
 pub returns-clause-value : goal.returns-clause-value
 returns-clause-value c =
@@ -14,6 +18,6 @@ returns-clause-value c =
     let share = share_is p s t.section c.share-share.result c.share-share.ensures in
     let quarter : c.quarter-quarter.result ≡ quarter_at p s t = c.quarter-quarter.ensures.quarter
     ∙ ap (λ (n : ℕ). quarter_of n t.thresholds) share in
-    c.left_at.ensures.value ∙ ap (λ (n : ℕ). left_at n mask t) quarter
+    c.of.ensures.left ∙ ap (λ (n : ℕ). left_at n mask t) quarter
     ∙ ap (λ (b : Bool). if b then left_at (quarter_at p s t) mask t else [] ∷ [])
     (sym c.if-not-standing-place.false)

@@ -4,7 +4,7 @@ use Rattle.thrust_region.specs.Choices.{choices_of}
 use Rattle.thrust_region.specs.Pieces.{all_points}
 use Rattle.thrust_region.proofs.regions.choices.Given as goal
 
-abbrev pub invariant-loop-pieces : goal.invariant-loop-pieces
-invariant-loop-pieces l = l.product * choices_of
-    (map all_points (drop l.pieces-index l.pieces-items))
+abbrev pub invariant-loop-region : goal.invariant-loop-region
+invariant-loop-region l = l.product * choices_of
+    (map all_points (drop l.region-index l.region-items))
     ≡ choices_of (map all_points l.regions.list.items)
