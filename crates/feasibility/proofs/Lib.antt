@@ -5,3 +5,4 @@ pub mod Reached
 pub mod Scaled
 pub mod Steps
 pub mod Beyond
+pub mod First

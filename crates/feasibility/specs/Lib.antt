@@ -3,3 +3,4 @@ pub mod Lowest
 pub mod Reached
 pub mod Steps
 pub mod Beyond
+pub mod First

@@ -11,6 +11,7 @@ use Rattle.certificate.specs.declared.outcome.Outcome.{Outcome}
 use Rattle.certificate.specs.Outcomes.{IsAhead, IsValid, question_of}
 use Rattle.feasibility.specs.declared.choosing.Step.{Step}
 use Rattle.feasibility.specs.declared.choosing.Step.TheVariants.{Met, CutOff}
+use Rattle.feasibility.specs.First.{IsHeldBy}
 use Rattle.feasibility.specs.Lowest.{IsLowest, IsPrimitive}
 
 -- the outcome is valid for each demand that is so far from the load of the fixed thrusts
@@ -27,6 +28,6 @@ FallsShort plant regions ahead k w =
 
 -- the choice meets the demand, or the direction separates it, each in lowest terms
 abbrev pub IsStep : Parts → Regions → Vec3 → ℕ → Step → Type 0
-IsStep plant regions ahead k (Met outcome) = IsValidAhead plant regions ahead outcome × IsLowest
-    outcome
+IsStep plant regions ahead k (Met outcome) =
+    IsValidAhead plant regions ahead outcome × IsLowest outcome × IsHeldBy k outcome
 IsStep plant regions ahead k (CutOff w) = FallsShort plant regions ahead k w × IsPrimitive w

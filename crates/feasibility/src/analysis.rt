@@ -9,6 +9,7 @@ ghost use Rattle.certificate.specs.Losses.{demand_of, question_after};
 ghost use Rattle.certificate.specs.Outcomes.{IsAhead, IsFeasible, IsValid, question_of};
 ghost use Rattle.certificate.specs.Sides.{place_of};
 ghost use Rattle.feasibility.specs.Beyond.{IsStill};
+ghost use Rattle.feasibility.specs.First.{IsByFirst, IsByFirstAhead};
 ghost use Rattle.feasibility.specs.Lowest.{IsLowest};
 ghost use Rattle.feasibility.specs.Reached.{IsHolds, IsLost};
 ghost use Rattle.feasibility.specs.Steps.{IsValidAhead};
@@ -26,8 +27,8 @@ use wrench_geometry::Vec3;
 
 /// Whether what the loss leaves of the plant meets the demand, with what shows it: a `Holds` where
 /// it does, else a `Lost`. A group's number is below the count of groups, and the demand is within
-/// its limits. A demand that is the load of the fixed thrusts holds by these alone: in the first
-/// choice, over 1.
+/// its limits. Of the choices in their order the first that holds is the one that answers. A demand
+/// that is the load of the fixed thrusts holds by these alone: in the first choice, over 1.
 pub fn analyse(plant: &Plant, status: &Status, loss: Loss, demand: Wrench) -> Outcome
     requires loss { IsLossOf plant.now loss }
     requires demand { IsDemand demand }
@@ -37,14 +38,15 @@ pub fn analyse(plant: &Plant, status: &Status, loss: Loss, demand: Wrench) -> Ou
         ↔ IsFeasible (question_after plant.now status.now loss demand) }
     ensures lost { IsLost result
         ↔ ¬ IsFeasible (question_after plant.now status.now loss demand) }
+    ensures first { IsByFirst (question_after plant.now status.now loss demand) result }
     ensures still { IsAhead (question_after plant.now status.now loss demand) zero_vector
         → IsStill (fixed_of plant.now status.now loss) result }
 {
     verdict(plant, &surviving(plant, status, loss), demand)
 }
 
-/// Whether the regions meet the demand, with what shows it: a `Holds` where they do, else a `Lost`.
-/// There are a region and a fixed thrust for each thruster, and the demand is within its limits.
+/// Whether the regions meet the demand, with what shows it: a `Holds` where they do, by the first
+/// choice that does, else a `Lost`. There are a region and a fixed thrust for each thruster, and the demand is within its limits.
 pub fn verdict(plant: &Plant, regions: &Regions, demand: Wrench) -> Outcome
     requires region_each { length regions.now.list.items ≡ length plant.now.thrusters.items }
     requires fixed_each { length regions.now.fixed.items ≡ length plant.now.thrusters.items }
@@ -55,6 +57,7 @@ pub fn verdict(plant: &Plant, regions: &Regions, demand: Wrench) -> Outcome
         ↔ IsFeasible (question_of plant.now regions.now (demand_of demand)) }
     ensures lost { IsLost result
         ↔ ¬ IsFeasible (question_of plant.now regions.now (demand_of demand)) }
+    ensures first { IsByFirst (question_of plant.now regions.now (demand_of demand)) result }
     ensures still { IsAhead (question_of plant.now regions.now (demand_of demand)) zero_vector
         → IsStill regions.now.fixed.items result }
 {
@@ -68,6 +71,7 @@ fn judged(plant: &Plant, regions: &Regions, ahead: Vec3) -> Outcome
     requires fixed_each { length regions.now.fixed.items ≡ length plant.now.thrusters.items }
     ensures valid { IsValidAhead plant.now regions.now ahead result }
     ensures lowest { IsLowest result }
+    ensures first { IsByFirstAhead plant.now regions.now ahead result }
     ensures still { ahead ≡ zero_vector → IsStill regions.now.fixed.items result }
 {
     if ahead == Vec3::default() {

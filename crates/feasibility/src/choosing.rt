@@ -4,6 +4,7 @@ ghost use Rattle.thrust_region.specs.Choices.{choices_of};
 ghost use Rattle.thrust_region.specs.Pieces.{all_points};
 ghost use Rattle.wrench_geometry.specs.Vectors.{zero_vector};
 ghost use Rattle.wrench_geometry.specs.Wrenches.{IsDemandVector};
+ghost use Rattle.feasibility.specs.First.{IsByFirstAhead};
 ghost use Rattle.feasibility.specs.Lowest.{IsLowest};
 ghost use Rattle.feasibility.specs.Steps.{IsStep, IsValidAhead};
 
@@ -34,6 +35,7 @@ pub fn choose(plant: &Plant, regions: &Regions, ahead: Vec3) -> Outcome
     requires not_zero { ahead ≢ zero_vector }
     ensures valid { IsValidAhead plant.now regions.now ahead result }
     ensures lowest { IsLowest result }
+    ensures first { IsByFirstAhead plant.now regions.now ahead result }
 {
     let mut list = ArrayVec::new();
     for k in 0..choices(regions) {

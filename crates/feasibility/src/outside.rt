@@ -4,6 +4,7 @@ ghost use Rattle.thrust_region.specs.Choices.{choices_of};
 ghost use Rattle.thrust_region.specs.Pieces.{all_points};
 ghost use Rattle.wrench_geometry.specs.Wrenches.{IsDemandVector};
 ghost use Rattle.feasibility.specs.Beyond.{IsBeyond, IsSide};
+ghost use Rattle.feasibility.specs.First.{IsByFirstAhead};
 ghost use Rattle.feasibility.specs.Lowest.{IsLowest, IsPrimitive};
 ghost use Rattle.feasibility.specs.Steps.{FallsShort, IsValidAhead};
 
@@ -55,6 +56,7 @@ pub fn all_cut(plant: &Plant, regions: &Regions, ahead: Vec3, w: Vec3) -> Outcom
     requires beyond { IsBeyond ahead w }
     ensures valid { IsValidAhead plant.now regions.now ahead result }
     ensures lowest { IsLowest result }
+    ensures first { IsByFirstAhead plant.now regions.now ahead result }
 {
     let mut list = ArrayVec::new();
     for k in 0..choices(regions) {

@@ -5,9 +5,10 @@ ghost use Rattle.wrench_geometry.specs.Vectors.{dot_of, support_of};
 ghost use Rattle.wrench_geometry.specs.declared.vector.Vec3.{Vec3};
 ghost use Rattle.exit_point.specs.Exits.{IsExit};
 ghost use Rattle.certificate.specs.Outcomes.{IsValid, Question};
+ghost use Rattle.feasibility.specs.First.{IsHeldBy};
 ghost use Rattle.feasibility.specs.Lowest.{IsLowest, IsPrimitive};
 ghost use Rattle.feasibility.specs.Means.{HaveRoom};
-ghost use Rattle.feasibility.specs.Reached.{IsHolds, IsReached};
+ghost use Rattle.feasibility.specs.Reached.{IsReached};
 
 use crate::lowest::{Shared, direction, lowest};
 use crate::mean::means;
@@ -25,7 +26,7 @@ pub fn held(number: u32, chosen: &Chosen, fixed: &[Point], exit: &ExitWeights) -
     requires rows { HaveRoom exit.now.weights.items (map points_of chosen.now.pieces.items) }
     requires fixed_each { length fixed.now ≡ length chosen.now.pieces.items }
     requires from_1 { pos 1 ≤ℤ exit.now.t }
-    ensures holds { IsHolds result }
+    ensures choice { IsHeldBy number result }
     ensures valid { (question : Question) (ahead : Vec3) →
         IsReached question ahead number (map points_of chosen.now.pieces.items) fixed.now exit.now →
         IsValid question result }

@@ -1,3 +1,4 @@
+use Rattle.feasibility.proofs.First.{first_after}
 use Rattle.feasibility.proofs.Steps.{all_primitive, one_more_cut_off}
 use Rattle.feasibility.proofs.choosing.choose.Goals as goal
 
@@ -12,3 +13,9 @@ pub returns-clause-lowest : goal.returns-clause-lowest
 returns-clause-lowest c =
     all_primitive c.args.plant.now c.args.regions.now c.args.ahead c.loop-k.k c.loop-k.list.items
     c.loop-k.invariant
+
+pub returns-in-Met-clause-first : goal.returns-in-Met-clause-first
+returns-in-Met-clause-first c =
+    first_after c.args.plant.now c.args.regions.now c.args.ahead c.loop-k.k c.loop-k.list.items
+    c.in-Met.outcome c.requires.region_each c.requires.fixed_each c.loop-k.invariant
+    c.in-Met.ensures.2

@@ -70,4 +70,5 @@ returns c =
             enough = enough;
           }),
       c.held.ensures.lowest,
+      c.held.ensures.choice,
     )
