@@ -12,3 +12,4 @@ pub mod ToldGroups
 pub mod ToldNumbers
 pub mod ToldOutcomes
 pub mod ToldReplies
+pub mod ToldTexts

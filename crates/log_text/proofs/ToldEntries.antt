@@ -26,7 +26,7 @@ use Rattle.log_text.proofs.ToldReplies.{reply-is_told, reply-told, reply_fields,
 
 -- ---- entries
 
-abbrev space : ℕ
+abbrev pub space : ℕ
 space = 32
 
 abbrev equals_sign : ℕ
@@ -79,7 +79,7 @@ module _ (plant : Parts) (named : AreNamed plant.groups.items)
       (reply-is_told other.reply other_good.answered) same)
       ∙ reply-told other.reply other_good.answered other_good.fits.reply
 
-  told-caller : (entry : Entry) → list_all is_told_byte (caller_text entry.caller) ≡ true
+  pub told-caller : (entry : Entry) → list_all is_told_byte (caller_text entry.caller) ≡ true
   told-caller entry = told-field (caller_text entry.caller) (caller-field entry.caller)
 
   told-call : (entry : Entry) → IsTellable plant entry
@@ -92,19 +92,19 @@ module _ (plant : Parts) (named : AreNamed plant.groups.items)
   told-reply entry good = told-text (reply_text entry.reply) (reply_fields entry.reply)
       (reply-is_told entry.reply good.answered)
 
-  abbrev behind_call : Entry → List ℕ → List ℕ
+  abbrev pub behind_call : Entry → List ℕ → List ℕ
   behind_call entry rest = equals_sign ∷ space ∷ (reply_text entry.reply ++ line_feed ∷ rest)
 
-  abbrev behind_caller : Entry → List ℕ → List ℕ
+  abbrev pub behind_caller : Entry → List ℕ → List ℕ
   behind_caller entry rest = call_text plant entry.call ++ space ∷ behind_call entry rest
 
-  line_spelled : (entry : Entry) (rest : List ℕ) → entry_text plant entry ++ rest
+  pub line_spelled : (entry : Entry) (rest : List ℕ) → entry_text plant entry ++ rest
       ≡ caller_text entry.caller ++ space ∷ behind_caller entry rest
   line_spelled entry rest = entry_spelled (caller_text entry.caller) (call_text plant entry.call)
       (reply_text entry.reply) rest
 
   -- the line of an entry tells it
-  entry_same : (entry other : Entry) (rest others : List ℕ) → IsTellable plant entry
+  pub entry_same : (entry other : Entry) (rest others : List ℕ) → IsTellable plant entry
       → IsTellable plant other → entry_text plant entry ++ rest ≡ entry_text plant other ++ others
       → (entry ≡ other) × (rest ≡ others)
   entry_same entry other rest others good other_good same =
@@ -127,7 +127,7 @@ module _ (plant : Parts) (named : AreNamed plant.groups.items)
 
   -- ---- histories
 
-  abbrev AreTellable : List Entry → Type 0
+  abbrev pub AreTellable : List Entry → Type 0
   AreTellable history = AllByRecursion (IsTellable plant) history
 
   no_lines : (entry : Entry) (rest : List ℕ) → [] ≡ entry_text plant entry ++ rest → ⊥
@@ -150,7 +150,7 @@ module _ (plant : Parts) (named : AreNamed plant.groups.items)
       ap₂ (λ (entry : Entry) (entries : List Entry). entry ∷ entries) first.0
       (lines_same es fs good.1 other_good.1 first.1)
 
-  tellable : (limit : ℕ) (stand : Stand) (history : List Entry)
+  pub tellable : (limit : ℕ) (stand : Stand) (history : List Entry)
       → IsLegalFrom plant limit stand history → AllByRecursion FitsEntry history
       → AreTellable history
   tellable limit stand [] legal held = tt

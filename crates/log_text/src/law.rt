@@ -1,7 +1,7 @@
 //! What a log tells of its history.
 ghost use Rattle.std.specs.Prelude.{All, IsTrue};
 ghost use Rattle.plant_model.specs.Names.{is_name};
-ghost use Rattle.log_text.specs.Laws.{LogsTellHistories};
+ghost use Rattle.log_text.specs.Laws.{LogsTellHistories, TextsTellHistories};
 
 use plant_model::plant::Plant;
 
@@ -22,5 +22,24 @@ pub fn logs_tell_histories(plant: &Plant)
 {
     // What a plant keeps true of its groups: their names are names, and no two have one.
     groups_are_named(plant);
+    let _parts = plant.parts();
+}
+
+/// Each thruster has a name that is one.
+fn thrusters_are_named(plant: &Plant)
+    ensures { All (λ thruster. IsTrue (is_name thruster.name)) plant.now.thrusters.items }
+{
+    for thruster in plant.thrusters().as_slice() {
+        let _name = thruster.name.bytes();
+    }
+}
+
+/// What is written of a history tells it: two legal histories of the plant are the same where the frames of their
+/// commands, their logs and their reports, one after another, are the same, byte for byte.
+pub fn texts_tell_histories(plant: &Plant)
+    ensures { TextsTellHistories plant.now }
+{
+    groups_are_named(plant);
+    thrusters_are_named(plant);
     let _parts = plant.parts();
 }

@@ -16,7 +16,7 @@ pub use command::command_text;
 pub use entry::{entry_text, log_head};
 pub use findings::Findings;
 pub use fits::histories_are_held;
-pub use law::logs_tell_histories;
+pub use law::{logs_tell_histories, texts_tell_histories};
 pub use outcome::outcome_text;
 pub use report::report_text;
 pub use values::check_json;
