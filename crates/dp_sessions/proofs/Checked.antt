@@ -10,16 +10,18 @@ use Rattle.plant_model.specs.declared.wrench.Wrench.{Wrench}
 use Rattle.telegram.specs.declared.telegram.Reject.{Reject}
 use Rattle.dp_words.specs.Faults.{TellsFaults}
 use Rattle.dp_words.specs.PlantSource.{IsPlantError, PlantSays}
-use Rattle.dp_words.specs.Words.{Placed, check_form, check_of, demand_of, form_of, is_dash, json_of}
-use Rattle.dp_words.specs.Words.{kind_of, numbered, options, placed, places, replay_form}
-use Rattle.dp_words.specs.Words.{written_form}
+use Rattle.dp_words.specs.Words.{Placed, check_form, check_of, demand_of, form_of, is_dash}
+use Rattle.dp_words.specs.Words.{asks_for, kind_of, numbered, options, placed, places}
+use Rattle.dp_words.specs.Words.{replay_form, vote_form, written_form}
 use Rattle.dp_words.specs.declared.form.Form.{Form}
-use Rattle.dp_words.specs.declared.form.Form.TheVariants.{Check, Replay}
+use Rattle.dp_words.specs.declared.form.Form.TheVariants.{Check, Replay, Vote}
 use Rattle.dp_words.specs.declared.form.WordsFault.{WordsFault}
 use Rattle.dp_words.specs.declared.form.WordsFault.TheVariants.{OtherWords, UnknownCommand}
 use Rattle.dp_words.specs.declared.status.RunStatus.{RunStatus}
 use Rattle.dp_words.specs.declared.status.RunStatus.TheVariants.{Clear, LossFound, NoMemory}
 use Rattle.dp_words.specs.declared.status.RunStatus.TheVariants.{Usage, WriteFault}
+use Rattle.sensor_vote.specs.Calls.{names_vote}
+use Rattle.sensor_vote.proofs.Calls.{IsVote, is-vote-form}
 use Rattle.dp_sessions.specs.Checks.{AsksCheck, CheckOf, EndsFindings, IsSo, TookFindings}
 use Rattle.dp_sessions.specs.Checks.{TookSomeFindings, names_check}
 use Rattle.dp_sessions.specs.Plants.{HasPlant, HasPlantCause}
@@ -46,7 +48,7 @@ no-replay-form chosen (a ∷ []) plant telegrams is = cc
 no-replay-form chosen (a ∷ b ∷ []) plant telegrams is = cc
 no-replay-form chosen (a ∷ b ∷ c ∷ []) plant telegrams is = cc
 no-replay-form chosen (a ∷ b ∷ c ∷ d ∷ []) plant telegrams is =
-    no-replay-of a.0 plant telegrams (demand_of b.1 c.1 d.1) (json_of chosen) is
+    no-replay-of a.0 plant telegrams (demand_of b.1 c.1 d.1) (asks_for (codes "--json") chosen) is
 no-replay-form chosen (a ∷ b ∷ c ∷ d ∷ e ∷ rest) plant telegrams is = cc
 
 other-of : (place : ℕ) (demand : Result Wrench Reject) (json : Option Bool) (fault : WordsFault)
@@ -62,7 +64,7 @@ other-form chosen (a ∷ []) fault is = cc
 other-form chosen (a ∷ b ∷ []) fault is = cc
 other-form chosen (a ∷ b ∷ c ∷ []) fault is = cc
 other-form chosen (a ∷ b ∷ c ∷ d ∷ []) fault is =
-    other-of a.0 (demand_of b.1 c.1 d.1) (json_of chosen) fault is
+    other-of a.0 (demand_of b.1 c.1 d.1) (asks_for (codes "--json") chosen) fault is
 other-form chosen (a ∷ b ∷ c ∷ d ∷ e ∷ rest) fault is = cc
 
 no-check-if : (b : Bool) (place : ℕ) (demand : Wrench) (json : Bool) (plant telegrams : ℕ)
@@ -114,6 +116,32 @@ check-kind (command ∷ words) kind named is =
     other-form (options (placed words)) (places (placed words)) fault
     (subst (λ (c : List ℕ). written_form (c ∷ words) ≡ Err fault) same wrong)) is
 
+no-vote-of : (place telegrams : ℕ) (demand : Result Wrench Reject) (json : Option Bool)
+    (report : Bool) → check_of place demand json ≡ Ok (Vote telegrams report) → ⊥
+no-vote-of place telegrams (Ok demand) (Some json) report is = cc
+no-vote-of place telegrams (Ok demand) None report is = cc
+no-vote-of place telegrams (Err reject) json report is = cc
+
+no-vote-check : (chosen all : List Placed) (telegrams : ℕ) (report : Bool)
+    → check_form chosen all ≡ Ok (Vote telegrams report) → ⊥
+no-vote-check chosen [] telegrams report is = cc
+no-vote-check chosen (a ∷ []) telegrams report is = cc
+no-vote-check chosen (a ∷ b ∷ []) telegrams report is = cc
+no-vote-check chosen (a ∷ b ∷ c ∷ []) telegrams report is = cc
+no-vote-check chosen (a ∷ b ∷ c ∷ d ∷ []) telegrams report is =
+    no-vote-of a.0 telegrams (demand_of b.1 c.1 d.1) (asks_for (codes "--json") chosen) report is
+no-vote-check chosen (a ∷ b ∷ c ∷ d ∷ e ∷ rest) telegrams report is = cc
+
+-- nor do they have that of a vote
+pub checks-none : (words : List (List ℕ)) (telegrams : ℕ) (report : Bool)
+    → names_check words ≡ true → form_of words ≡ Ok (Vote telegrams report) → ⊥
+checks-none [] telegrams report named is = cc
+checks-none (command ∷ words) telegrams report named is =
+    let same : command ≡ codes "check" = (bytes_eq-Decides command (codes "check")).0 named in
+    let read = found (written_form (command ∷ words)) (Vote telegrams report) is in
+    no-vote-check (options (placed words)) (places (placed words)) telegrams report
+    (subst (λ (c : List ℕ). written_form (c ∷ words) ≡ Ok (Vote telegrams report)) same read)
+
 -- words that name a check, and whose form is none
 pub other-words : (words : List (List ℕ)) (read : Result Form ℕ) → names_check words ≡ true
     → read ≡ form_of words
@@ -123,19 +151,24 @@ other-words words (Ok (Check plant demand json)) named is other =
     absurd (other plant demand json refl)
 other-words words (Ok (Replay plant telegrams)) named is other =
     absurd (no-replay words plant telegrams named (sym is))
+other-words words (Ok (Vote telegrams report)) named is other =
+    absurd (checks-none words telegrams report named (sym is))
 other-words words (Err kind) named is other =
     sym is ∙ ap Err (check-kind words kind named (sym is))
 
-no-check-where : (replay check : Bool) (chosen all : List Placed) (plant : ℕ) (demand : Wrench)
-    (json : Bool) → check ≡ false
+no-check-where : (replay check vote : Bool) (chosen all : List Placed) (plant : ℕ)
+    (demand : Wrench) (json : Bool) → check ≡ false
     → (if replay then replay_form chosen all
-    else (if check then check_form chosen all else Err UnknownCommand))
+    else (if check then check_form chosen all
+    else (if vote then vote_form chosen all else Err UnknownCommand)))
     ≡ Ok (Check plant demand json)
     → ⊥
-no-check-where true check chosen all plant demand json other is =
+no-check-where true check vote chosen all plant demand json other is =
     no-check-form chosen all plant demand json is
-no-check-where false true chosen all plant demand json other is = cc (other)
-no-check-where false false chosen all plant demand json other is = cc
+no-check-where false true vote chosen all plant demand json other is = cc (other)
+no-check-where false false true chosen all plant demand json other is =
+    subst IsVote is (is-vote-form chosen all)
+no-check-where false false false chosen all plant demand json other is = cc
 
 -- words that name another command have no form of a check
 pub no-check : (words : List (List ℕ)) (plant : ℕ) (demand : Wrench) (json : Bool)
@@ -143,8 +176,45 @@ pub no-check : (words : List (List ℕ)) (plant : ℕ) (demand : Wrench) (json :
 no-check [] plant demand json named is = cc
 no-check (command ∷ words) plant demand json named is =
     no-check-where (bytes_eq command (codes "replay")) (bytes_eq command (codes "check"))
-    (options (placed words)) (places (placed words)) plant demand json named
+    (bytes_eq command (codes "vote")) (options (placed words)) (places (placed words)) plant demand json named
     (found (written_form (command ∷ words)) (Check plant demand json) is)
+
+no-vote-if : (b : Bool) (telegrams : ℕ) (report : Bool) (plant place : ℕ)
+    → (if b then Err OtherWords else Ok (Replay plant place)) ≡ Ok (Vote telegrams report) → ⊥
+no-vote-if true telegrams report plant place is = cc
+no-vote-if false telegrams report plant place is = cc
+
+no-vote-replay : (chosen all : List Placed) (telegrams : ℕ) (report : Bool)
+    → replay_form chosen all ≡ Ok (Vote telegrams report) → ⊥
+no-vote-replay [] [] telegrams report is = cc
+no-vote-replay [] (a ∷ []) telegrams report is = cc
+no-vote-replay [] (a ∷ b ∷ []) telegrams report is =
+    no-vote-if (is_dash a && is_dash b) telegrams report a.0 b.0 is
+no-vote-replay [] (a ∷ b ∷ c ∷ rest) telegrams report is = cc
+no-vote-replay (option ∷ more) all telegrams report is = cc
+
+no-vote-where : (replay check vote : Bool) (chosen all : List Placed) (telegrams : ℕ)
+    (report : Bool) → vote ≡ false
+    → (if replay then replay_form chosen all
+    else (if check then check_form chosen all
+    else (if vote then vote_form chosen all else Err UnknownCommand)))
+    ≡ Ok (Vote telegrams report)
+    → ⊥
+no-vote-where true check vote chosen all telegrams report other is =
+    no-vote-replay chosen all telegrams report is
+no-vote-where false true vote chosen all telegrams report other is =
+    no-vote-check chosen all telegrams report is
+no-vote-where false false true chosen all telegrams report other is = cc (other)
+no-vote-where false false false chosen all telegrams report other is = cc
+
+-- words that don't name a vote have no form of one
+pub no-vote : (words : List (List ℕ)) (telegrams : ℕ) (report : Bool)
+    → names_vote words ≡ false → form_of words ≡ Ok (Vote telegrams report) → ⊥
+no-vote [] telegrams report named is = cc
+no-vote (command ∷ words) telegrams report named is =
+    no-vote-where (bytes_eq command (codes "replay")) (bytes_eq command (codes "check"))
+    (bytes_eq command (codes "vote")) (options (placed words)) (places (placed words)) telegrams
+    report named (found (written_form (command ∷ words)) (Vote telegrams report) is)
 
 -- ---- the ends
 
@@ -157,7 +227,8 @@ pub record IsAsked (words : List (List ℕ)) (word : List ℕ) (demand : Wrench)
 
 abbrev named-check : (words : List (List ℕ)) (word : List ℕ) (demand : Wrench) (json : Bool)
     → AsksCheck words word demand json → HasPlant words word
-named-check words word demand json asked = (Check asked.0 demand json, asked.1, asked.2)
+named-check words word demand json asked =
+    (Check asked.0 demand json, asked.1, asked.0, refl, asked.2)
 
 abbrev check-of : {words : List (List ℕ)} {word : List ℕ} {demand : Wrench} {json : Bool} {plant : Parts}
     {first : Shown} → IsAsked words word demand json plant first → CheckOf words first

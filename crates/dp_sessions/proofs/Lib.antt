@@ -18,3 +18,4 @@ pub mod Rounds
 pub mod Streams
 pub mod Taken
 pub mod Texted
+pub mod Votes

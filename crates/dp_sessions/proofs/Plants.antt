@@ -24,7 +24,8 @@ use Rattle.dp_sessions.specs.Plants.{FileTells, HasAPlant, HasPlant, HasPlantCau
 one-word : (words : List (List ℕ)) (a b : List ℕ) → HasPlant words a → HasPlant words b → a ≡ b
 one-word words a b first second =
     let same : first.0 ≡ second.0 = cc (first.1, second.1) in
-    first.2 ∙ ap (λ (form : Form). slice_index_or words (plant_place form) []) same ∙ sym second.2
+    let places : first.2 ≡ second.2 = cc (first.3, second.3, ap plant_place same) in
+    first.4 ∙ ap (λ (place : ℕ). slice_index_or words place []) places ∙ sym second.4
 
 has-form : (words : List (List ℕ)) (form : Form) (kind : ℕ) → form_of words ≡ Ok form
     → form_of words ≡ Err kind → ⊥
@@ -190,11 +191,12 @@ word-at f xs x word place within at_x spelled =
 
 -- the plant's word
 pub named-at : {A : Type 0} (f : A → List ℕ) (xs : List A) (x : A) (form : Form) (word : List ℕ)
-    (place : ℕ) → form_of (map f xs) ≡ Ok form → place ≡ plant_place form → place < length xs
+    (place : ℕ) → form_of (map f xs) ≡ Ok form → plant_place form ≡ Some place → place < length xs
     → x ≡ get_or xs place x → word ≡ f x → HasPlant (map f xs) word
 named-at f xs x form word place is_form at_place within at_x spelled = (
   form,
   is_form,
-  word-at f xs x word place within at_x spelled
-      ∙ ap (λ (n : ℕ). slice_index_or (map f xs) n []) at_place,
+  place,
+  at_place,
+  word-at f xs x word place within at_x spelled,
 )

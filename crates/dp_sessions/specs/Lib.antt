@@ -3,4 +3,5 @@ pub mod Plants
 pub mod Runs
 pub mod Sessions
 pub mod Steps
+pub mod Votes
 pub mod Writing

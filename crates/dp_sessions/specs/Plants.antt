@@ -13,8 +13,8 @@ use Rattle.dp_words.specs.declared.status.RunStatus.TheVariants as statuses
 
 -- the words have a written form, with this word as the plant
 abbrev pub HasPlant : List (List ℕ) → List ℕ → Type 0
-HasPlant words word = (form : Form)
-    × (form_of words ≡ Ok form) × (word ≡ slice_index_or words (plant_place form) [])
+HasPlant words word = (form : Form) × (form_of words ≡ Ok form) × (place : ℕ)
+    × (plant_place form ≡ Some place) × (word ≡ slice_index_or words place [])
 
 -- what the plant's word among the words, and the plant source, say of the plant
 pub record WordsSay (words : List (List ℕ)) (first : Shown) (answer : Result Parts PlantFault)

@@ -1,20 +1,22 @@
 //! All that the program does.
-ghost use Rattle.std.specs.Prelude.{◌≡◌, map, string_bytes};
+ghost use Rattle.std.specs.Prelude.{◌≡◌, false, map, string_bytes};
 ghost use Rattle.dp_io.specs.Shown.{writing};
 ghost use Rattle.dp_sessions.specs.Checks.{names_check};
 ghost use Rattle.dp_sessions.specs.Plants.{NamesNoFile};
 ghost use Rattle.dp_sessions.specs.Runs.{EndsRun, EndsWhere};
 ghost use Rattle.dp_sessions.specs.Sessions.{passed};
+ghost use Rattle.sensor_vote.specs.Calls.{names_vote};
 
 use crate::check::check;
 use crate::replay::replay;
 use dp_io::{Gate, Sink, Source};
 use dp_words::{Form, RunStatus, form_of, tell};
+use sensor_vote::{names_vote, vote_call};
 use std::alloc::Global;
 use std::sync::Wait;
 use std::thread::Threads;
 
-/// What the words ask for, without a word to the error output.
+/// What the words ask for, without a word to the error output. They don't name a vote.
 fn answer<A: Source, B: Source, O: Sink>(
     alloc: Global,
     words: &[String],
@@ -22,6 +24,7 @@ fn answer<A: Source, B: Source, O: Sink>(
     second: &mut B,
     out: &mut O,
 ) -> RunStatus
+    requires { names_vote (map string_bytes words.now) ≡ false }
     ensures ends { EndsWhere (names_check (map string_bytes words.now)) (map string_bytes words.now)
         result (passed A.Source first.old first.new) (passed B.Source second.old second.new)
         (writing O.Sink out.old out.new) }
@@ -36,6 +39,7 @@ fn answer<A: Source, B: Source, O: Sink>(
                 json,
             },
         ) => check(alloc, words[plant].as_str(), demand, json, first, out),
+        Ok(Form::Vote { .. }) => unreachable!(),
         Err(kind) => RunStatus::Usage(kind),
     }
 }
@@ -43,7 +47,8 @@ fn answer<A: Source, B: Source, O: Sink>(
 /// All that the program does. The words are those after the program's name.
 ///
 /// The sources are those of the plant, of the sensors or the recorded telegrams, and of the operators. Today the
-/// commands are `replay` and `check`, which start no thread, don't read the third source and tell the gate nothing.
+/// commands are `replay`, `check` and `vote`, which start no thread, don't read the third source and tell the gate
+/// nothing. The first source is that of a vote's telegrams.
 pub fn run<
     R: Threads + Wait + Sync,
     A: Source,
@@ -71,6 +76,9 @@ pub fn run<
       err = writing E.Sink err.old err.new;
     }) }
 {
+    if names_vote(words) {
+        return vote_call(words, first, out, err);
+    }
     let status = answer(alloc, words, first, second, out);
     tell(&status, err);
     status

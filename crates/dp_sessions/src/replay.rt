@@ -1,12 +1,14 @@
 //! The top call of `replay`.
-ghost use Rattle.std.specs.Prelude.{◌≡◌, ℕ, List, codes, map, string_bytes};
+ghost use Rattle.std.specs.Prelude.{◌≡◌, ℕ, List, Bool, codes, map, string_bytes};
 ghost use Rattle.dp_io.specs.Shown.{reading, writing};
 ghost use Rattle.dp_sessions.specs.Plants.{HasPlant, NamesNoFile};
-ghost use Rattle.dp_sessions.specs.Sessions.{EndsCall, EndsSession, passed, recorded};
+ghost use Rattle.dp_sessions.specs.Sessions.{EndsSession, passed, recorded};
+ghost use Rattle.dp_sessions.specs.Votes.{AskNoVote, EndsReplay, RefusesVote};
+ghost use Rattle.sensor_vote.specs.Calls.{AsksVote};
 
 use crate::session::session;
 use dp_io::{Sink, Source};
-use dp_words::{RunStatus, form_of, plant_from, tell};
+use dp_words::{RunStatus, WordsFault, form_of, plant_from, tell};
 use std::alloc::Global;
 
 /// A session over recorded telegrams, of the plant that the word names, without a word to the error output.
@@ -34,7 +36,7 @@ pub fn replay<A: Source, B: Source, O: Sink>(
     }
 }
 
-/// What the words ask for, without a word to the error output.
+/// What the words ask for, without a word to the error output. Words of a vote are refused.
 fn replay_words<A: Source, B: Source, O: Sink>(
     alloc: Global,
     words: &[String],
@@ -42,15 +44,23 @@ fn replay_words<A: Source, B: Source, O: Sink>(
     telegrams: &mut B,
     out: &mut O,
 ) -> RunStatus
-    ensures session { EndsSession (map string_bytes words.now) result
+    ensures session { AskNoVote (map string_bytes words.now)
+        → EndsSession (map string_bytes words.now) result
         (recorded (passed B.Source telegrams.old telegrams.new)
         (writing O.Sink out.old out.new))
         (reading A.Source first.old first.new) (writing O.Sink out.old out.new) }
+    ensures refused { (report : Bool) → AsksVote (map string_bytes words.now) report
+        → RefusesVote result (passed A.Source first.old first.new)
+        (passed B.Source telegrams.old telegrams.new) (writing O.Sink out.old out.new) }
     ensures unread { NamesNoFile (map string_bytes words.now) → first.new ≡ first.old }
 {
-    match form_of(words) {
-        Ok(form) => replay(alloc, words[form.plant()].as_str(), first, telegrams, out),
-        Err(kind) => RunStatus::Usage(kind),
+    let form = match form_of(words) {
+        Ok(form) => form,
+        Err(kind) => return RunStatus::Usage(kind),
+    };
+    match form.plant() {
+        Some(plant) => replay(alloc, words[plant].as_str(), first, telegrams, out),
+        None => RunStatus::Usage(WordsFault::OtherWords.number()),
     }
 }
 
@@ -59,6 +69,7 @@ fn replay_words<A: Source, B: Source, O: Sink>(
 /// Where the words have that form, there is a plant and nothing fails, `out` takes the frames of the session's commands
 /// as they are answered, and then the log of its history and its report. The status says what failed else, and `err`
 /// takes its line. The first source is that of the plant file, which isn't read where the plant is the built-in one.
+/// Words that ask for a vote have no plant: they are refused as faulty words.
 pub fn replay_call<A: Source, B: Source, O: Sink, E: Sink>(
     alloc: Global,
     words: &[String],
@@ -67,10 +78,8 @@ pub fn replay_call<A: Source, B: Source, O: Sink, E: Sink>(
     out: &mut O,
     err: &mut E,
 ) -> RunStatus
-    ensures { EndsCall (map string_bytes words.now) result
-        (passed A.Source first.old first.new)
-        (recorded (passed B.Source second.old second.new)
-        (writing O.Sink out.old out.new))
+    ensures { EndsReplay (map string_bytes words.now) result
+        (passed A.Source first.old first.new) (passed B.Source second.old second.new)
         (writing O.Sink out.old out.new) (writing E.Sink err.old err.new) }
 {
     let status = replay_words(alloc, words, first, second, out);

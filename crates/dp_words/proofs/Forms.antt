@@ -19,8 +19,8 @@ use Rattle.dp_words.specs.declared.form.WordsFault.{WordsFault}
 use Rattle.dp_words.specs.declared.form.WordsFault.TheVariants.{UnknownCommand, OtherWords}
 use Rattle.dp_words.specs.declared.sorting.TheConstants.{KEPT_OPTIONS, KEPT_PLACES}
 use Rattle.dp_words.specs.Words.{Placed, placed, is_dash, is_dashes, is_option, options, places}
-use Rattle.dp_words.specs.Words.{replay_form, check_form, check_of, demand_of, json_of, written_form}
-use Rattle.dp_words.specs.Words.{NamesBelow}
+use Rattle.dp_words.specs.Words.{replay_form, check_form, check_of, demand_of, asks_for}
+use Rattle.dp_words.specs.Words.{written_form, NamesBelow, vote_form, vote_of}
 
 -- ---- the kept options and places are enough
 
@@ -33,10 +33,11 @@ replay_kept [] (plant ∷ telegrams ∷ []) = refl
 replay_kept [] (plant ∷ telegrams ∷ more ∷ rest) = refl
 replay_kept (option ∷ more) all = refl
 
-json_kept : (all : List Placed) → json_of (take KEPT_OPTIONS all) ≡ json_of all
-json_kept [] = refl
-json_kept (option ∷ []) = refl
-json_kept (option ∷ more ∷ rest) = refl
+option_kept : (name : List ℕ) (all : List Placed)
+    → asks_for name (take KEPT_OPTIONS all) ≡ asks_for name all
+option_kept name [] = refl
+option_kept name (option ∷ []) = refl
+option_kept name (option ∷ more ∷ rest) = refl
 
 pub check_kept : (all_options all : List Placed)
     → check_form (take KEPT_OPTIONS all_options) (take KEPT_PLACES all)
@@ -46,8 +47,16 @@ check_kept all_options (plant ∷ []) = refl
 check_kept all_options (plant ∷ x ∷ []) = refl
 check_kept all_options (plant ∷ x ∷ y ∷ []) = refl
 check_kept all_options (plant ∷ x ∷ y ∷ n ∷ []) =
-    ap (check_of plant.0 (demand_of x.1 y.1 n.1)) (json_kept all_options)
+    ap (check_of plant.0 (demand_of x.1 y.1 n.1)) (option_kept (codes "--json") all_options)
 check_kept all_options (plant ∷ x ∷ y ∷ n ∷ more ∷ rest) = refl
+
+pub vote_kept : (all_options all : List Placed)
+    → vote_form (take KEPT_OPTIONS all_options) (take KEPT_PLACES all)
+    ≡ vote_form all_options all
+vote_kept all_options [] = refl
+vote_kept all_options (telegrams ∷ []) =
+    ap (vote_of telegrams.0) (option_kept (codes "--report") all_options)
+vote_kept all_options (telegrams ∷ more ∷ rest) = refl
 
 -- another count of places than four is no form
 pub error_unless_four : (all_options all : List Placed) → length all ≢ 4
@@ -58,6 +67,23 @@ error_unless_four all_options (plant ∷ x ∷ []) other = refl
 error_unless_four all_options (plant ∷ x ∷ y ∷ []) other = refl
 error_unless_four all_options (plant ∷ x ∷ y ∷ n ∷ []) other = absurd (other refl)
 error_unless_four all_options (plant ∷ x ∷ y ∷ n ∷ more ∷ rest) other = refl
+
+check_none : (plant : ℕ) (demand : Result Wrench Reject) (json : Option Bool) → json ≡ None
+    → Err OtherWords ≡ check_of plant demand json
+check_none plant (Ok demand) (Some json) none = cc
+check_none plant (Ok demand) None none = refl
+check_none plant (Err reject) json none = refl
+
+-- and neither are options other than its own
+pub error_where_none : (all_options all : List Placed)
+    → asks_for (codes "--json") all_options ≡ None → Err OtherWords ≡ check_form all_options all
+error_where_none all_options [] none = refl
+error_where_none all_options (plant ∷ []) none = refl
+error_where_none all_options (plant ∷ x ∷ []) none = refl
+error_where_none all_options (plant ∷ x ∷ y ∷ []) none = refl
+error_where_none all_options (plant ∷ x ∷ y ∷ n ∷ []) none =
+    check_none plant.0 (demand_of x.1 y.1 n.1) (asks_for (codes "--json") all_options) none
+error_where_none all_options (plant ∷ x ∷ y ∷ n ∷ more ∷ rest) none = refl
 
 -- ---- a form names places among the words
 
@@ -107,17 +133,34 @@ check_below count all_options (plant ∷ []) below = tt
 check_below count all_options (plant ∷ x ∷ []) below = tt
 check_below count all_options (plant ∷ x ∷ y ∷ []) below = tt
 check_below count all_options (plant ∷ x ∷ y ∷ n ∷ []) below =
-    check_of_below count plant.0 (demand_of x.1 y.1 n.1) (json_of all_options)
+    check_of_below count plant.0 (demand_of x.1 y.1 n.1) (asks_for (codes "--json") all_options)
     (below 0 plant (omega arith))
 check_below count all_options (plant ∷ x ∷ y ∷ n ∷ more ∷ rest) below = tt
 
-command_below : (count : ℕ) (all_options all : List Placed) (replay check : Bool)
+vote_of_below : (count telegrams : ℕ) (report : Option Bool) → telegrams < count
+    → IfOk (vote_of telegrams report) (λ form. NamesBelow form count)
+vote_of_below count telegrams (Some report) below = below
+vote_of_below count telegrams None below = tt
+
+vote_below : (count : ℕ) (all_options all : List Placed) → All (IsBelow count) all
+    → IfOk (vote_form all_options all) (λ form. NamesBelow form count)
+vote_below count all_options [] below = tt
+vote_below count all_options (telegrams ∷ []) below =
+    vote_of_below count telegrams.0 (asks_for (codes "--report") all_options)
+    (below 0 telegrams (omega arith))
+vote_below count all_options (telegrams ∷ more ∷ rest) below = tt
+
+command_below : (count : ℕ) (all_options all : List Placed) (replay check vote : Bool)
     → All (IsBelow count) all
     → IfOk {E = WordsFault} (if replay then replay_form all_options all
-    else (if check then check_form all_options all else Err UnknownCommand)) (λ form. NamesBelow form count)
-command_below count all_options all true check below = replay_below count all_options all below
-command_below count all_options all false true below = check_below count all_options all below
-command_below count all_options all false false below = tt
+    else (if check then check_form all_options all
+    else (if vote then vote_form all_options all else Err UnknownCommand)))
+    (λ form. NamesBelow form count)
+command_below count all_options all true check vote below =
+    replay_below count all_options all below
+command_below count all_options all false true vote below = check_below count all_options all below
+command_below count all_options all false false true below = vote_below count all_options all below
+command_below count all_options all false false false below = tt
 
 -- the places of a form are among the words
 pub names_below : (words : List (List ℕ))
@@ -128,6 +171,7 @@ names_below (command ∷ words) =
     subst (λ n. IfOk (written_form (command ∷ words)) (λ form. NamesBelow form n)) count
     (command_below (length words + 1) (options (placed words)) (places (placed words))
     (bytes_eq command (codes "replay")) (bytes_eq command (codes "check"))
+    (bytes_eq command (codes "vote"))
     (places_below (length words + 1) (placed words) (placed_below words)))
 
 pub names_of : {X : Type 0} (f : X → List ℕ) (words : List X) (form : Result Form WordsFault)
@@ -168,5 +212,18 @@ pub form_of_check : {X : Type 0} (f : X → List ℕ) (words rest : List X) (com
 form_of_check f words rest command name kept_options kept split named is options_are places_are =
     ap₂ check_form options_are places_are
     ∙ check_kept (options (placed (map f rest))) (places (placed (map f rest)))
+    ∙ ap (λ text. written_form (text ∷ map f rest)) (sym is)
+    ∙ command-is f words rest command name split named
+
+-- `vote` likewise
+pub form_of_vote : {X : Type 0} (f : X → List ℕ) (words rest : List X) (command : X)
+    (name : List ℕ) (kept_options kept : List Placed)
+    → words ≡ command ∷ rest → name ≡ f command → name ≡ codes "vote"
+    → kept_options ≡ take KEPT_OPTIONS (options (placed (map f rest)))
+    → kept ≡ take KEPT_PLACES (places (placed (map f rest)))
+    → vote_form kept_options kept ≡ written_form (map f words)
+form_of_vote f words rest command name kept_options kept split named is options_are places_are =
+    ap₂ vote_form options_are places_are
+    ∙ vote_kept (options (placed (map f rest))) (places (placed (map f rest)))
     ∙ ap (λ text. written_form (text ∷ map f rest)) (sym is)
     ∙ command-is f words rest command name split named

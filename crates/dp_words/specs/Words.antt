@@ -11,7 +11,7 @@ use Rattle.plant_model.specs.declared.wrench.Wrench.{Wrench}
 use Rattle.telegram.specs.Telegrams.{◌>>=◌, within_of}
 use Rattle.telegram.specs.declared.telegram.Reject.{Reject}
 use Rattle.dp_words.specs.declared.form.Form.{Form}
-use Rattle.dp_words.specs.declared.form.Form.TheVariants.{Check, Replay}
+use Rattle.dp_words.specs.declared.form.Form.TheVariants.{Check, Replay, Vote}
 use Rattle.dp_words.specs.declared.form.WordsFault.{WordsFault}
 use Rattle.dp_words.specs.declared.form.WordsFault.TheVariants.{NoWord, UnknownCommand, OtherWords}
 
@@ -59,11 +59,11 @@ replay_form [] (plant ∷ telegrams ∷ []) =
 replay_form [] (plant ∷ telegrams ∷ more ∷ rest) = Err OtherWords
 replay_form (option ∷ more) all = Err OtherWords
 
--- whether `--json` is the option; neither where another is, or more than one
-abbrev pub json_of : List Placed → Option Bool
-json_of [] = Some false
-json_of (option ∷ []) = if bytes_eq option.1 (codes "--json") then Some true else None
-json_of (option ∷ more ∷ rest) = None
+-- whether this is the option; neither where another is, or more than one
+abbrev pub asks_for : List ℕ → List Placed → Option Bool
+asks_for name [] = Some false
+asks_for name (option ∷ []) = if bytes_eq option.1 name then Some true else None
+asks_for name (option ∷ more ∷ rest) = None
 
 -- the demand that three words spell, within its limits
 abbrev pub demand_of : List ℕ → List ℕ → List ℕ → Result Wrench Reject
@@ -87,8 +87,19 @@ check_form options (plant ∷ []) = Err OtherWords
 check_form options (plant ∷ x ∷ []) = Err OtherWords
 check_form options (plant ∷ x ∷ y ∷ []) = Err OtherWords
 check_form options (plant ∷ x ∷ y ∷ n ∷ []) =
-    check_of plant.0 (demand_of x.1 y.1 n.1) (json_of options)
+    check_of plant.0 (demand_of x.1 y.1 n.1) (asks_for (codes "--json") options)
 check_form options (plant ∷ x ∷ y ∷ n ∷ more ∷ rest) = Err OtherWords
+
+-- a vote on the telegrams at this place, where the option is right
+abbrev pub vote_of : ℕ → Option Bool → Result Form WordsFault
+vote_of telegrams (Some report) = Ok (Vote telegrams report)
+vote_of telegrams None = Err OtherWords
+
+-- `vote` has one place, and may have the option `--report`
+abbrev pub vote_form : List Placed → List Placed → Result Form WordsFault
+vote_form options [] = Err OtherWords
+vote_form options (telegrams ∷ []) = vote_of telegrams.0 (asks_for (codes "--report") options)
+vote_form options (telegrams ∷ more ∷ rest) = Err OtherWords
 
 -- the written form of the words, or what is wrong with them: there is none, the command is unknown,
 -- or the others aren't of its form
@@ -99,7 +110,9 @@ written_form (command ∷ words) =
     if bytes_eq command (codes "replay") then replay_form (options rest) (places rest)
     else
     (if bytes_eq command (codes "check") then check_form (options rest) (places rest)
-    else Err UnknownCommand)
+    else
+    (if bytes_eq command (codes "vote") then vote_form (options rest) (places rest)
+    else Err UnknownCommand))
 
 -- the form, or the number of what is wrong
 abbrev pub numbered : Result Form WordsFault → Result Form ℕ
@@ -115,24 +128,28 @@ form_of words = numbered (written_form words)
 abbrev pub NamesBelow : Form → ℕ → Type 0
 NamesBelow (Replay plant telegrams) count = (plant < count) × (telegrams < count)
 NamesBelow (Check plant demand json) count = plant < count
+NamesBelow (Vote telegrams report) count = telegrams < count
 
 -- what the form asks of the thrusters, if anything, is within the demand's limits
 abbrev pub AsksWithin : Form → Type 0
 AsksWithin (Replay plant telegrams) = Unit {0}
 AsksWithin (Check plant demand json) = IsDemand demand
+AsksWithin (Vote telegrams report) = Unit {0}
 
--- the place of the plant's word
-abbrev pub plant_place : Form → ℕ
-plant_place (Replay plant telegrams) = plant
-plant_place (Check plant demand json) = plant
+-- the place of the plant's word, where the command has a plant
+abbrev pub plant_place : Form → Option ℕ
+plant_place (Replay plant telegrams) = Some plant
+plant_place (Check plant demand json) = Some plant
+plant_place (Vote telegrams report) = None
 
 -- the word at a place, or an empty one where there is none
 abbrev pub word_at : List (List ℕ) → Option ℕ → List ℕ
 word_at words None = []
 word_at words (Some place) = slice_index_or words place []
 
--- the places of the words that name files: of the plant and of the telegrams
+-- the places of the words that name files: of the plant and of the telegrams, or of these alone
 abbrev pub files_of : Result Form ℕ → List (Option ℕ)
 files_of (Ok (Replay plant telegrams)) = Some plant ∷ Some telegrams ∷ None ∷ []
 files_of (Ok (Check plant demand json)) = Some plant ∷ None ∷ None ∷ []
+files_of (Ok (Vote telegrams report)) = Some telegrams ∷ None ∷ None ∷ []
 files_of (Err kind) = None ∷ None ∷ None ∷ []

@@ -1,10 +1,10 @@
 //! The words of the command line.
-ghost use Rattle.std.specs.Prelude.{◌≡◌, ℕ, ◌<◌, length, map, IfOk, string_bytes};
+ghost use Rattle.std.specs.Prelude.{◌≡◌, ℕ, ◌<◌, length, map, IfOk, IfSome, string_bytes};
 ghost use Rattle.plant_model.specs.Versions.{IsDemand};
 ghost use Rattle.telegram.specs.Numbers.{number_of, IsFromTo};
 ghost use Rattle.dp_words.specs.Sorting.{pair};
-ghost use Rattle.dp_words.specs.Words.{replay_form, json_of, demand_of, check_form, form_of};
-ghost use Rattle.dp_words.specs.Words.{written_form, kind_of, plant_place, files_of};
+ghost use Rattle.dp_words.specs.Words.{replay_form, asks_for, demand_of, check_form, vote_form};
+ghost use Rattle.dp_words.specs.Words.{form_of, written_form, kind_of, plant_place, files_of};
 ghost use Rattle.dp_words.specs.Words.{NamesBelow, AsksWithin};
 
 use crate::sorting::{Placed, sort_words};
@@ -25,6 +25,11 @@ pub enum Form {
         plant: usize,
         demand: Wrench,
         json: bool,
+    },
+    /// `vote TELEGRAMS`: one position for each round of three references. A report of them for `--report`.
+    Vote {
+        telegrams: usize,
+        report: bool,
     },
 }
 
@@ -53,13 +58,15 @@ impl WordsFault {
 }
 
 impl Form {
-    /// The place of the word that names the plant.
-    pub fn plant(self) -> usize
+    /// The place of the word that names the plant. None where the command has no plant.
+    pub fn plant(self) -> Option<usize>
         ensures place { result ≡ plant_place self }
-        ensures within { (count : ℕ) → NamesBelow self count → result < count }
+        ensures within { (count : ℕ) → NamesBelow self count
+            → IfSome result (λ place. place < count) }
     {
         match self {
-            Form::Replay { plant, .. } | Form::Check { plant, .. } => plant,
+            Form::Replay { plant, .. } | Form::Check { plant, .. } => Some(plant),
+            Form::Vote { .. } => None,
         }
     }
 }
@@ -78,13 +85,13 @@ fn replay_form(options: &[Placed<'_>], places: &[Placed<'_>]) -> Result<Form, Wo
     }
 }
 
-/// Whether `--json` is among the options. None where another option is, or one more.
-fn json_of(options: &[Placed<'_>]) -> Option<bool>
-    ensures { result ≡ json_of (map pair options.now) }
+/// Whether the option is there. None where another one is, or one more.
+fn asks_for(name: &str, options: &[Placed<'_>]) -> Option<bool>
+    ensures { result ≡ asks_for name.now (map pair options.now) }
 {
     match options {
         [] => Some(false),
-        [option] if option.word == "--json" => Some(true),
+        [option] if option.word == name => Some(true),
         _ => None,
     }
 }
@@ -118,11 +125,28 @@ fn check_form(options: &[Placed<'_>], places: &[Placed<'_>]) -> Result<Form, Wor
     let [plant, x, y, n] = places else {
         return Err(WordsFault::OtherWords);
     };
-    match (demand_of(x.word, y.word, n.word), json_of(options)) {
+    match (
+        demand_of(x.word, y.word, n.word),
+        asks_for("--json", options),
+    ) {
         (Ok(demand), Some(json)) => Ok(Form::Check {
             plant: plant.place,
             demand,
             json,
+        }),
+        _ => Err(WordsFault::OtherWords),
+    }
+}
+
+/// The form of `vote` with these options and places.
+fn vote_form(options: &[Placed<'_>], places: &[Placed<'_>]) -> Result<Form, WordsFault>
+    ensures form { result ≡ vote_form (map pair options.now) (map pair places.now) }
+    ensures demand { IfOk result AsksWithin }
+{
+    match (places, asks_for("--report", options)) {
+        ([telegrams], Some(report)) => Ok(Form::Vote {
+            telegrams: telegrams.place,
+            report,
         }),
         _ => Err(WordsFault::OtherWords),
     }
@@ -142,6 +166,7 @@ fn written_form(words: &[String]) -> Result<Form, WordsFault>
     match command.as_str() {
         "replay" => replay_form(options, places),
         "check" => check_form(options, places),
+        "vote" => vote_form(options, places),
         _ => Err(WordsFault::UnknownCommand),
     }
 }
@@ -153,7 +178,8 @@ fn written_form(words: &[String]) -> Result<Form, WordsFault>
 /// a place. Before it, a word that starts with `-` and is longer than that is an option; every other word is a
 /// place. `replay` has the places PLANT and TELEGRAMS, of which at most one is the word `-`, and no option. `check`
 /// has the places PLANT, X, Y and N, and may have the option `--json`, at most once. X and Y, in kN, and N, in
-/// kN·dm, are numbers as telegrams spell them, within the demand's limits.
+/// kN·dm, are numbers as telegrams spell them, within the demand's limits. `vote` has the place TELEGRAMS, and may
+/// have the option `--report`, at most once.
 pub fn form_of(words: &[String]) -> Result<Form, u32>
     ensures form { result ≡ form_of (map string_bytes words.now) }
     ensures within { IfOk result (λ form. NamesBelow form (length words.now)) }
@@ -166,14 +192,15 @@ pub fn form_of(words: &[String]) -> Result<Form, u32>
 }
 
 /// The places of the words that name files, in the order of the sources that `run` takes: the plant's, also where
-/// it is the built-in one, and the telegrams'. None where the form has no such file, and where the words have no
-/// written form.
+/// it is the built-in one, and the telegrams'; of `vote` the telegrams' alone. None where the form has no such file,
+/// and where the words have no written form.
 pub fn file_words(words: &[String]) -> [Option<usize>; 3]
     ensures { result ≡ files_of (form_of (map string_bytes words.now)) }
 {
     match form_of(words) {
         Ok(Form::Replay { plant, telegrams }) => [Some(plant), Some(telegrams), None],
         Ok(Form::Check { plant, .. }) => [Some(plant), None, None],
+        Ok(Form::Vote { telegrams, .. }) => [Some(telegrams), None, None],
         Err(_) => [None, None, None],
     }
 }

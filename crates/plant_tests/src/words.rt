@@ -49,6 +49,11 @@ fn words_without_a_form(rt: HostRuntime) -> Result<(), Fail> {
         ("check demo 0 0 0 -- --json", 3),
         ("check demo 0 0 -- --json", 3),
         ("check demo 0 0 0 -- --", 3),
+        ("vote", 3),
+        ("vote - --report --report", 3),
+        ("vote - --json", 3),
+        ("vote - -- --report", 3),
+        ("vote demo -", 3),
     ] {
         assert_eq!(rt;
             form_of(words_of(alloc, line)?.as_slice()),
@@ -125,7 +130,29 @@ fn words_of_check(rt: HostRuntime) -> Result<(), Fail> {
             [Some(plant), None, None],
             "at {line}"
         );
-        assert_eq!(rt; form.plant(), plant);
+        assert_eq!(rt; form.plant(), Some(plant));
+    }
+    Ok(())
+}
+
+#[test]
+fn words_of_vote(rt: HostRuntime) -> Result<(), Fail> {
+    let alloc = rt.alloc();
+    for (line, telegrams, report) in [
+        ("vote -", 1, false),
+        ("vote file --report", 1, true),
+        ("vote --report -- -x", 3, true),
+        ("vote -- --report", 2, false),
+    ] {
+        let words = words_of(alloc, line)?;
+        let form = Form::Vote { telegrams, report };
+        assert_eq!(rt; form_of(words.as_slice()), Ok(form), "at {line}");
+        assert_eq!(rt;
+            file_words(words.as_slice()),
+            [Some(telegrams), None, None],
+            "at {line}"
+        );
+        assert_eq!(rt; form.plant(), None);
     }
     Ok(())
 }

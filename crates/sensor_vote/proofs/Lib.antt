@@ -1,3 +1,9 @@
+pub mod Calls
 pub mod Fields
 pub mod Headings
+pub mod Heards
+pub mod Lines
 pub mod Rounds
+pub mod Sending
+pub mod Streams
+pub mod Texts

@@ -1,5 +1,7 @@
-//! Tests of the vote of three position references.
+//! Tests of the vote of three position references, and of its command.
 #![tactic(auto)]
 
+#[cfg(test)]
+mod calls;
 #[cfg(test)]
 mod tests;

@@ -8,7 +8,7 @@ use Rattle.dp_words.specs.declared.form.Form.TheVariants.{Check, Replay}
 use Rattle.dp_words.specs.declared.status.RunStatus.TheVariants.{Usage}
 use Rattle.dp_sessions.specs.Checks.{AsksCheck, names_check}
 use Rattle.dp_sessions.specs.Sessions.{passed}
-use Rattle.dp_sessions.proofs.Checked.{ends-usage, no-check, no-replay, ran-check, ran-either}
+use Rattle.dp_sessions.proofs.Checked.{ends-usage, no-check, no-replay, no-vote, ran-check, ran-either}
 use Rattle.dp_sessions.proofs.Checked.{ran-replay}
 use Rattle.dp_sessions.proofs.Endings.{session-usage}
 use Rattle.dp_sessions.proofs.Plants.{named-at, word-at}
@@ -90,3 +90,9 @@ returns-in-Err-clause-ends g c =
     (ends-usage words kind first.shown out is refl refl refl) refl
     (session-usage words kind first.shown second out is
     (record { unwritten = refl; unread = refl }) refl refl refl)
+
+pub unreachable-requires : goal.unreachable-requires
+unreachable-requires g c =
+    let vote = c.in-Ok-Vote in
+    no-vote (map string_bytes c.args.words.now) vote.field-0-0 vote.field-0-1 c.requires
+    (sym vote.ensures.form ∙ ap Ok vote.field-0-is)

@@ -1,7 +1,7 @@
 -- The kept options and places are enough for each command.
 use Rattle.std.proofs.Common.{ap, map, string_bytes, ◌∙◌}
 use Rattle.dp_words.specs.Sorting.{pair}
-use Rattle.dp_words.proofs.Forms.{form_of_check, form_of_replay, names_of}
+use Rattle.dp_words.proofs.Forms.{form_of_check, form_of_replay, form_of_vote, names_of}
 use Rattle.dp_words.proofs.form.written_form.Goals as goal
 
 pub returns-in-replay-clause-form : goal.returns-in-replay-clause-form
@@ -24,6 +24,16 @@ returns-in-check-clause-form c =
     c.in-check.is (ap (map pair) c.as_slice-options.ensures.value ∙ sorted.ensures.options)
     (ap (map pair) c.as_slice-places.ensures.value ∙ sorted.ensures.places)
 
+pub returns-in-vote-clause-form : goal.returns-in-vote-clause-form
+returns-in-vote-clause-form c =
+    let sorted = c.sort_words-sorted in
+    c.vote_form.ensures.form
+    ∙ form_of_vote string_bytes c.args.words.now c.in-Some.words.now c.in-Some.command.now
+    c.as_str.result.now (map pair c.as_slice-options.result.now)
+    (map pair c.as_slice-places.result.now) c.in-Some.ensures.cases.0 c.as_str.ensures.value
+    c.in-vote.is (ap (map pair) c.as_slice-options.ensures.value ∙ sorted.ensures.options)
+    (ap (map pair) c.as_slice-places.ensures.value ∙ sorted.ensures.places)
+
 pub returns-in-replay-clause-within : goal.returns-in-replay-clause-within
 returns-in-replay-clause-within c =
     names_of string_bytes c.args.words.now c.replay_form.result (returns-in-replay-clause-form c)
@@ -31,3 +41,7 @@ returns-in-replay-clause-within c =
 pub returns-in-check-clause-within : goal.returns-in-check-clause-within
 returns-in-check-clause-within c =
     names_of string_bytes c.args.words.now c.check_form.result (returns-in-check-clause-form c)
+
+pub returns-in-vote-clause-within : goal.returns-in-vote-clause-within
+returns-in-vote-clause-within c =
+    names_of string_bytes c.args.words.now c.vote_form.result (returns-in-vote-clause-form c)
