@@ -85,6 +85,15 @@ fn tells_an_entry_and_an_empty_history(rt: HostRuntime) -> Result<(), Fail> {
     assert_eq!(rt; command_text(alloc, &demo(), &entry)?.as_str(), "");
     let core = Core::start(alloc, demo(), MOST_ENTRIES)?;
     assert_eq!(rt; log_head(alloc, core.plant())?.as_str(), "LOG,1,DEMO\n");
+    let entry = Entry {
+        caller: 2,
+        call: Call::Telegram(Telegram::Board),
+        reply: Reply::Cells(core.cells()),
+    };
+    assert_eq!(rt;
+        entry_text(alloc, &demo(), &entry)?.as_str(),
+        "O BRD = CELLS,0,PENDING,PENDING\n"
+    );
     assert_eq!(rt;
         report_text(alloc, &core)?.as_str(),
         "REPORT,0,0\nGROUP,GA,PENDING\nGROUP,GB,PENDING\nEND\n"
