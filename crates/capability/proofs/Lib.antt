@@ -1,0 +1,5 @@
+pub mod Exits
+pub mod Greatest
+pub mod Resting
+pub mod Paths
+pub mod Limits
