@@ -1,7 +1,7 @@
 #!/usr/bin/env python3
 """Times turns of the lock beside std's lock round the same value: turns a second with 1, 2 and 4 threads.
 
-Usage: bench/turns.py. It builds the proved program turn_bench first, then measures the program itself.
+Usage: bench/turns.py. It builds the proved program thread_bench first, then measures the program itself.
 """
 
 import pathlib
@@ -9,8 +9,8 @@ import subprocess
 import time
 
 ROOT = pathlib.Path(__file__).resolve().parent.parent
-CRATE = ROOT / "crates" / "turn_bench"
-PROGRAM = CRATE / "out" / "turn_bench"
+CRATE = ROOT / "crates" / "thread_bench"
+PROGRAM = CRATE / "out" / "thread_bench"
 TURNS = 400_000
 RUNS = 3
 

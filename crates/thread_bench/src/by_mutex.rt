@@ -26,23 +26,23 @@ fn in_two<R: Threads + Wait + Sync>(rt: &R, tally: &Mutex<Tally>, caller: u32, c
 }
 
 /// How many entries there are in the end.
-fn counted(tally: Mutex<Tally>) -> Option<usize> {
-    Some(tally.into_inner().callers.len())
+fn counted(tally: Mutex<Tally>) -> Option<u64> {
+    Some(tally.into_inner().callers.len() as u64)
 }
 
-pub fn one_thread<R: Threads + Wait + Sync>(rt: &R, alloc: Global, count: u32) -> Option<usize> {
+pub fn one_thread<R: Threads + Wait + Sync>(rt: &R, alloc: Global, count: u32) -> Option<u64> {
     let tally = Mutex::new(Tally::new(alloc));
     add_all(rt, &tally, 0, count);
     counted(tally)
 }
 
-pub fn two_threads<R: Threads + Wait + Sync>(rt: &R, alloc: Global, count: u32) -> Option<usize> {
+pub fn two_threads<R: Threads + Wait + Sync>(rt: &R, alloc: Global, count: u32) -> Option<u64> {
     let tally = Mutex::new(Tally::new(alloc));
     in_two(rt, &tally, 1, count);
     counted(tally)
 }
 
-pub fn four_threads<R: Threads + Wait + Sync>(rt: &R, alloc: Global, count: u32) -> Option<usize> {
+pub fn four_threads<R: Threads + Wait + Sync>(rt: &R, alloc: Global, count: u32) -> Option<u64> {
     let tally = Mutex::new(Tally::new(alloc));
     let shared = &tally;
     join(

@@ -1,5 +1,5 @@
 use Rattle.std.proofs.Common.{◌≡◌, false}
-use Rattle.turn_bench.proofs.by_turn.add_all.Given as goal
+use Rattle.thread_bench.proofs.by_turn.add_all.Given as goal
 
 abbrev pub invariant-loop : goal.invariant-loop
 invariant-loop g l = record {

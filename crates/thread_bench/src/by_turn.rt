@@ -78,23 +78,23 @@ fn started(alloc: Global) -> Option<(Turn<Tally>, Pass<Tally>)>
     Turn::start(alloc, Tally::new(alloc)).ok()
 }
 
-pub fn one_thread<R: Threads + Wait + Sync>(rt: &R, alloc: Global, count: u32) -> Option<usize> {
+pub fn one_thread<R: Threads + Wait + Sync>(rt: &R, alloc: Global, count: u32) -> Option<u64> {
     let (turn, root) = started(alloc)?;
     let root = add_all(rt, &turn, root, count);
-    Some(turn.close(root).callers.len())
+    Some(turn.close(root).callers.len() as u64)
 }
 
-pub fn two_threads<R: Threads + Wait + Sync>(rt: &R, alloc: Global, count: u32) -> Option<usize> {
+pub fn two_threads<R: Threads + Wait + Sync>(rt: &R, alloc: Global, count: u32) -> Option<u64> {
     let (turn, mut root) = started(alloc)?;
     let one = turn.split(&mut root).ok()?;
     let two = turn.split(&mut root).ok()?;
     let (one, two) = in_two(rt, &turn, one, two, count);
     turn.join(&mut root, one);
     turn.join(&mut root, two);
-    Some(turn.close(root).callers.len())
+    Some(turn.close(root).callers.len() as u64)
 }
 
-pub fn four_threads<R: Threads + Wait + Sync>(rt: &R, alloc: Global, count: u32) -> Option<usize> {
+pub fn four_threads<R: Threads + Wait + Sync>(rt: &R, alloc: Global, count: u32) -> Option<u64> {
     let (turn, mut root) = started(alloc)?;
     let one = turn.split(&mut root).ok()?;
     let two = turn.split(&mut root).ok()?;
@@ -120,5 +120,5 @@ pub fn four_threads<R: Threads + Wait + Sync>(rt: &R, alloc: Global, count: u32)
     turn.join(&mut root, two);
     turn.join(&mut root, three);
     turn.join(&mut root, four);
-    Some(turn.close(root).callers.len())
+    Some(turn.close(root).callers.len() as u64)
 }
