@@ -22,7 +22,8 @@ use Rattle.certificate.specs.Outcomes.{no_thrust, question_of, without}
 use Rattle.certificate.proofs.Choosing.{length-choice}
 use Rattle.certificate.proofs.Duality.{not_separated}
 use Rattle.feasibility.specs.First.{IsByFirstAhead, IsHeldBy}
-use Rattle.feasibility.proofs.Steps.{CutOffBelow, one_each}
+use Rattle.feasibility.specs.Steps.{CutOffBelow}
+use Rattle.feasibility.proofs.Steps.{one_each}
 
 -- thrusts that lie in the pieces at each place lie in the pieces
 stands_at : (q : ℤ) (pieces : List (List Point)) (fixed : List Point) (thrusts : List Thrust) →

@@ -6,3 +6,4 @@ pub mod Scaled
 pub mod Steps
 pub mod Beyond
 pub mod First
+pub mod Spreads

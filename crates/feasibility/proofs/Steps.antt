@@ -17,14 +17,7 @@ use Rattle.certificate.specs.declared.outcome.Outcome.TheVariants.{Lost}
 use Rattle.certificate.specs.Outcomes.{IsOneEach, question_of}
 use Rattle.certificate.proofs.Places.{lost_valid, separate_below}
 use Rattle.feasibility.specs.Lowest.{IsPrimitive}
-use Rattle.feasibility.specs.Steps.{FallsShort, IsValidAhead}
-
--- the choices below k are cut off, each by its direction in lowest terms
-pub record CutOffBelow (plant : Parts) (regions : Regions) (ahead : Vec3) (k : ℕ) (list : List Vec3)
-    : Type 0 where
-  pub counted : length list ≡ k
-  pub short : (i : ℕ) → i < k → FallsShort plant regions ahead i (get_or list i zero_vector)
-  pub primitive : (i : ℕ) → i < k → IsPrimitive (get_or list i zero_vector)
+use Rattle.feasibility.specs.Steps.{AreCutOff, CutOffBelow, FallsShort, IsValidAhead}
 
 pub none_cut_off : (plant : Parts) (regions : Regions) (ahead : Vec3) →
     CutOffBelow plant regions ahead 0 []
@@ -56,6 +49,21 @@ one_more_cut_off plant regions ahead k list more w is short primitive so_far =
       primitive = below_more (λ i. IsPrimitive (get_or more i zero_vector)) k
           (λ i below. subst IsPrimitive (sym (old i below)) (so_far.primitive i below))
           (subst IsPrimitive (sym last) primitive);
+    }
+
+pub one_more_are : (plant : Parts) (regions : Regions) (ahead : Vec3) (list more : List Vec3)
+    (w : Vec3) → AreCutOff plant regions ahead list →
+    length list < choices_of (map all_points regions.list.items) →
+    FallsShort plant regions ahead (length list) w → IsPrimitive w → more ≡ list ++ w ∷ [] →
+    AreCutOff plant regions ahead more
+one_more_are plant regions ahead list more w are there short primitive is =
+    let same : length list + 1 ≡ length more =
+    omega (arith, ap length is, length-append list (w ∷ [])) in
+    record {
+      cut = subst (λ (n : ℕ). CutOffBelow plant regions ahead n more) same
+          (one_more_cut_off plant regions ahead (length list) list more w is short primitive
+          are.cut);
+      there = omega (arith, same, there);
     }
 
 pub all_cut_off : (plant : Parts) (regions : Regions) (ahead : Vec3) (k : ℕ) (cuts : Cuts) →

@@ -4,3 +4,4 @@ pub mod Reached
 pub mod Steps
 pub mod Beyond
 pub mod First
+pub mod Spreads

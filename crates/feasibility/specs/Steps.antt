@@ -1,12 +1,12 @@
 -- What one choice says of a demand, and what the choices so far say.
-use Rattle.std.specs.Prelude.{ℕ, ◌<ℤ◌, map}
+use Rattle.std.specs.Prelude.{◌≡◌, ℕ, ◌<◌, ◌≤◌, ◌<ℤ◌, List, length, map, slice_index_or}
 use Rattle.plant_model.specs.declared.plant.Parts.{Parts}
-use Rattle.thrust_region.specs.Choices.{choice_of}
+use Rattle.thrust_region.specs.Choices.{choice_of, choices_of}
 use Rattle.thrust_region.specs.Pieces.{all_points}
 use Rattle.thrust_region.specs.declared.regions.Regions.{Regions}
 use Rattle.wrench_geometry.specs.declared.vector.Vec3.{Vec3}
 use Rattle.wrench_geometry.specs.Chosen.{images_of, levers_of}
-use Rattle.wrench_geometry.specs.Vectors.{dot_of, support_of}
+use Rattle.wrench_geometry.specs.Vectors.{dot_of, support_of, zero_vector}
 use Rattle.certificate.specs.declared.outcome.Outcome.{Outcome}
 use Rattle.certificate.specs.Outcomes.{IsAhead, IsValid, question_of}
 use Rattle.feasibility.specs.declared.choosing.Step.{Step}
@@ -31,3 +31,16 @@ abbrev pub IsStep : Parts → Regions → Vec3 → ℕ → Step → Type 0
 IsStep plant regions ahead k (Met outcome) =
     IsValidAhead plant regions ahead outcome × IsLowest outcome × IsHeldBy k outcome
 IsStep plant regions ahead k (CutOff w) = FallsShort plant regions ahead k w × IsPrimitive w
+
+-- the choices below k are cut off, each by its direction in lowest terms
+pub record CutOffBelow (plant : Parts) (regions : Regions) (ahead : Vec3) (k : ℕ) (list : List Vec3)
+    : Type 0 where
+  pub counted : length list ≡ k
+  pub short : (i : ℕ) → i < k → FallsShort plant regions ahead i (slice_index_or list i zero_vector)
+  pub primitive : (i : ℕ) → i < k → IsPrimitive (slice_index_or list i zero_vector)
+
+-- the first so many choices are cut off by as many directions, and there are as many choices
+pub record AreCutOff (plant : Parts) (regions : Regions) (ahead : Vec3) (list : List Vec3)
+    : Type 0 where
+  pub cut : CutOffBelow plant regions ahead (length list) list
+  pub there : length list ≤ choices_of (map all_points regions.list.items)

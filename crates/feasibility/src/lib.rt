@@ -8,7 +8,9 @@ pub mod lowest;
 pub mod mean;
 mod outside;
 mod step;
+mod subtrees;
 
 pub use analysis::{analyse, verdict};
 pub use choosing::choose;
 pub use step::{cut_off, held};
+pub use subtrees::{cut_off_from, spread};

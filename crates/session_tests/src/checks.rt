@@ -39,7 +39,7 @@ fn the_demo_is_checked(rt: HostRuntime) -> Result<(), Fail> {
         RunStatus::LossFound,
         "CHECK,0,381,0\n\
          INTACT,HOLDS,0,36,0,3175,0,3175,2667,3683,-2667,3683\n\
-         GROUP,GA,LOST,2,100,400,1,-100,360,-1\n\
+         GROUP,GA,LOST,2,100,400,1,100,400,1\n\
          GROUP,GB,HOLDS,0,2,0,381,0,0,0,381,0,0\n\
          ALLOCATION,1,1,0,36,0,3175,0,3175,2667,3683,-2667,3683\n\
          END\n",

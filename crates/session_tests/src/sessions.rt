@@ -90,7 +90,7 @@ fn a_loss_that_is_not_met_raises_an_alarm(rt: HostRuntime) -> Result<(), Fail> {
         "O MOD,MANUAL = TAKEN\n\
          O MAN,0,381,0 = TAKEN\n\
          C POS,1000,0,0,0 = COMMANDED,1,0,381,0,1,1,0,36,0,3175,0,3175,2667,3683,-2667,3683\n\
-         S PUBLISH,1,GA,LOST,2,100,400,1,-100,360,-1 = SHOWN\n\
+         S PUBLISH,1,GA,LOST,2,100,400,1,100,400,1 = SHOWN\n\
          S PUBLISH,1,GB,HOLDS,0,2,0,381,0,0,0,381,0,0 = SHOWN\n\
          O ACK,1 = TAKEN\n\
          O ACK,1 = NO-SUCH-ALARM\n",

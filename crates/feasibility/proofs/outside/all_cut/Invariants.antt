@@ -1,4 +1,4 @@
-use Rattle.feasibility.proofs.Steps.{CutOffBelow}
+use Rattle.feasibility.specs.Steps.{CutOffBelow}
 use Rattle.feasibility.proofs.outside.all_cut.Given as goal
 
 abbrev pub invariant-loop-k : goal.invariant-loop-k
