@@ -1,13 +1,15 @@
 -- No part of a demand that a choice can give is greater than that up to which the demand's ray
 -- stays in the choice's sums.
 use Rattle.std.proofs.Common.{◌≡◌, ◌∙◌, ℕ, ◌<◌, ℤ, pos, ◌+ℤ◌, ◌*ℤ◌, ◌≤ℤ◌, ◌<ℤ◌, List, [], ◌∷◌}
-use Rattle.std.proofs.Common.{map, refl, sym, ap, subst, arith}
-use Rattle.std.specs.Int.{int_max}
+use Rattle.std.proofs.Common.{map, refl, sym, ap, subst, SFits, ◌^◌, ◌-◌, arith}
+use Rattle.std.specs.Int.{int_max, w128}
 use Rattle.std.proofs.lemmas.Int.{ints, int_max_is, by_lt_z}
+use Rattle.int_ring.proofs.Intervals.{known_fits}
 use Rattle.int_ring.proofs.Laws.{linear}
 use Rattle.int_ring.proofs.Order.{cancel_le_left, mul_le_left, mul_le_right, nonneg_of_mul_nonneg}
 use Rattle.int_ring.proofs.Ring.{ring, reads}
 use Rattle.dp_num.specs.Fractions.{SameQuotient}
+use Rattle.dp_num.specs.Quotients.{IsFloor}
 use Rattle.thrust_region.specs.Choices.{choice_of, choices_of}
 use Rattle.wrench_geometry.specs.declared.vector.Vec3.{Vec3}
 use Rattle.wrench_geometry.specs.Chosen.{images_of}
@@ -19,7 +21,7 @@ use Rattle.certificate.specs.Outcomes.{IsOneEach, Question, total_of}
 use Rattle.certificate.specs.Sides.{place_of}
 use Rattle.certificate.proofs.Choosing.{length-choice}
 use Rattle.certificate.proofs.Duality.{all_at_most}
-use Rattle.thrust_allocation.specs.Allocations.{IsPart}
+use Rattle.thrust_allocation.specs.Allocations.{CanGive, IsPart}
 use Rattle.allocator.specs.Reaches.{AreAtRest, IsGreatestIn, denominator_of}
 use Rattle.allocator.proofs.Resting.{total_at_rest}
 
@@ -98,21 +100,17 @@ exit_from_0 lists d exit exits =
     nonneg_of_mul_nonneg exit.cut.bottom exit.t (omega (arith, linear, ahead))
     (omega (arith, linear, product, none, same, turned))
 
-pub greatest_in : (question : Question) (choice : ℕ) (exit : ExitWeights) (top bottom : ℤ) →
-    IsOneEach question → AreAtRest question.fixed → choice < choices_of question.regions →
-    IsExit (images_of question.levers (choice_of question.regions choice)) question.demand exit →
-    pos 1 ≤ℤ bottom → SameQuotient top bottom exit.t (denominator_of exit) →
-    IsGreatestIn question choice top bottom
-greatest_in question choice exit top bottom one_each at_rest there exits some same more rest part
-    less can =
+-- along any direction no part of the demand is farther than the support of the choice
+pub through_cut : (question : Question) (choice : ℕ) (w : Vec3) → IsOneEach question →
+    AreAtRest question.fixed → choice < choices_of question.regions → (more rest : ℤ) →
+    pos 1 ≤ℤ rest → CanGive question choice more rest → (more *ℤ dot_of w question.demand)
+    ≤ℤ (rest *ℤ support_of (images_of question.levers (choice_of question.regions choice)) w)
+through_cut question choice w one_each at_rest there more rest some can =
     let levers = question.levers in
     let pieces = choice_of question.regions choice in
     let lists = images_of levers pieces in
     let d = question.demand in
-    let w = exit.cut.w in
     let gives = can.gives in
-    let q_from_1 = exits.q_from_1 in
-    let part_to_1 = part.to_1 in
     let total = total_of levers (map place_of can.thrusts) in
     let most : dot_of w total ≤ℤ (support_of lists w *ℤ can.q) =
     subst (λ (z : ℤ). dot_of w total ≤ℤ (z *ℤ can.q)) beside
@@ -120,9 +118,38 @@ greatest_in question choice exit top bottom one_each at_rest there exits some sa
     (length-choice question.regions choice there ∙ one_each.regions) gives.lie) in
     let sum : rest *ℤ dot_of w total ≡ can.q *ℤ more *ℤ dot_of w d =
     sym (dot_scaled rest total) ∙ ap (dot_of w) gives.sum ∙ dot_scaled (can.q *ℤ more) d in
-    let through : (more *ℤ dot_of w d) ≤ℤ (rest *ℤ support_of lists w) =
     lets_through (dot_of w total) (support_of lists w) can.q more rest (dot_of w d) gives.from_1
-    part.bottom_from_1 most sum in
+    some most sum
+  where
+    dot_scaled : (k : ℤ) (v : Vec3) → dot_of w (scaled_by k v) ≡ k *ℤ dot_of w v
+    dot_scaled k v = ring (k ∷ w.x ∷ w.y ∷ w.z ∷ v.x ∷ v.y ∷ v.z ∷ []) (search reads depth 40) refl
+
+    no_product : dot_of w zero_vector ≡ pos 0
+    no_product = ring (w.x ∷ w.y ∷ w.z ∷ []) (search reads depth 40) refl
+
+    beside : support_of (images_of question.levers (choice_of question.regions choice)) w
+        +ℤ dot_of w (total_of question.levers question.fixed)
+        ≡ support_of (images_of question.levers (choice_of question.regions choice)) w
+    beside = plus_nothing _ _ (ap (dot_of w)
+        (total_at_rest question.levers question.fixed at_rest) ∙ no_product)
+      where
+        plus_nothing : (a b : ℤ) → b ≡ pos 0 → a +ℤ b ≡ a
+        plus_nothing a b e = omega (arith, ints)
+
+pub greatest_in : (question : Question) (choice : ℕ) (exit : ExitWeights) (top bottom : ℤ) →
+    IsOneEach question → AreAtRest question.fixed → choice < choices_of question.regions →
+    IsExit (images_of question.levers (choice_of question.regions choice)) question.demand exit →
+    pos 1 ≤ℤ bottom → SameQuotient top bottom exit.t (denominator_of exit) →
+    IsGreatestIn question choice top bottom
+greatest_in question choice exit top bottom one_each at_rest there exits some same more rest part
+    less can =
+    let lists = images_of question.levers (choice_of question.regions choice) in
+    let d = question.demand in
+    let w = exit.cut.w in
+    let q_from_1 = exits.q_from_1 in
+    let part_to_1 = part.to_1 in
+    let through = through_cut question choice w one_each at_rest there more rest
+    part.bottom_from_1 can in
     let quotient : exit.t *ℤ dot_of w d ≡ exit.q *ℤ support_of lists w =
     ap (λ (z : ℤ). exit.t *ℤ z) (sym exits.cut.bottom) ∙ exits.same_quotient
     ∙ ap (λ (z : ℤ). exit.q *ℤ z) exits.cut.top in
@@ -136,26 +163,36 @@ greatest_in question choice exit top bottom one_each at_rest there exits some sa
     (from_1_of exit.q exit.t q_from_1) (omega (arith, linear, some)) same to_whole in
     omega (arith, linear, none, less)
   where
-    dot_scaled : (k : ℤ) (v : Vec3) → dot_of exit.cut.w (scaled_by k v) ≡ k *ℤ dot_of exit.cut.w v
-    dot_scaled k v = ring
-        (k ∷ exit.cut.w.x ∷ exit.cut.w.y ∷ exit.cut.w.z ∷ v.x ∷ v.y ∷ v.z ∷ [])
-        (search reads depth 40) refl
-
-    no_product : dot_of exit.cut.w zero_vector ≡ pos 0
-    no_product =
-        ring (exit.cut.w.x ∷ exit.cut.w.y ∷ exit.cut.w.z ∷ []) (search reads depth 40) refl
-
-    beside : support_of (images_of question.levers (choice_of question.regions choice)) exit.cut.w
-        +ℤ dot_of exit.cut.w (total_of question.levers question.fixed)
-        ≡ support_of (images_of question.levers (choice_of question.regions choice)) exit.cut.w
-    beside = plus_nothing _ _ (ap (dot_of exit.cut.w)
-        (total_at_rest question.levers question.fixed at_rest) ∙ no_product)
-      where
-        plus_nothing : (a b : ℤ) → b ≡ pos 0 → a +ℤ b ≡ a
-        plus_nothing a b e = omega (arith, ints)
-
     from_1_of : (q t : ℤ) → pos 1 ≤ℤ q → pos 1 ≤ℤ int_max q t
     from_1_of q t h = omega (arith, linear, int_max_is)
+
+-- where the support of a direction isn't past a part of the demand, no greater part can be given
+pub greatest_within : (question : Question) (choice : ℕ) (w : Vec3) (top bottom : ℤ) →
+    IsOneEach question → AreAtRest question.fixed → choice < choices_of question.regions →
+    pos 1 ≤ℤ bottom → pos 1 ≤ℤ dot_of w question.demand →
+    (support_of (images_of question.levers (choice_of question.regions choice)) w *ℤ bottom)
+    ≤ℤ (top *ℤ dot_of w question.demand) → IsGreatestIn question choice top bottom
+greatest_within question choice w top bottom one_each at_rest there some ahead most more rest part
+    less can =
+    past (support_of (images_of question.levers (choice_of question.regions choice)) w)
+    (dot_of w question.demand) more rest part.bottom_from_1 ahead
+    (through_cut question choice w one_each at_rest there more rest part.bottom_from_1 can) most less
+  where
+    past : (s b more rest : ℤ) → pos 1 ≤ℤ rest → pos 1 ≤ℤ b → (more *ℤ b) ≤ℤ (rest *ℤ s) →
+        (s *ℤ bottom) ≤ℤ (top *ℤ b) → (top *ℤ rest) <ℤ (more *ℤ bottom) → ⊥
+    past s b more rest rest_some b_some through most less =
+        let grown = mul_le_right (more *ℤ b) (rest *ℤ s) bottom through (omega (arith, linear, some))
+        in
+        let scaled = mul_le_left (s *ℤ bottom) (top *ℤ b) rest most (omega (arith, linear)) in
+        let e : more *ℤ b *ℤ bottom ≡ b *ℤ (more *ℤ bottom) =
+        ring (more ∷ b ∷ bottom ∷ []) (search reads depth 40) refl in
+        let f : rest *ℤ s *ℤ bottom ≡ rest *ℤ (s *ℤ bottom) =
+        ring (rest ∷ s ∷ bottom ∷ []) (search reads depth 40) refl in
+        let g : rest *ℤ (top *ℤ b) ≡ b *ℤ (top *ℤ rest) =
+        ring (rest ∷ top ∷ b ∷ []) (search reads depth 40) refl in
+        let none = cancel_le_left (more *ℤ bottom) (top *ℤ rest) b (omega (arith, linear))
+        (omega (arith, linear, grown, scaled, e, f, g)) in
+        omega (arith, linear, none, less)
 
 -- a quotient that is held to 1 is a part
 pub part_to_1 : (t m top bottom : ℤ) → pos 1 ≤ℤ m → pos 0 ≤ℤ bottom → t ≤ℤ m →
@@ -179,3 +216,27 @@ held_to_1 exit top bottom q_from_1 from_0 bottom_from_1 same = record {
 
     most : (q t : ℤ) → t ≤ℤ int_max q t
     most q t = omega (arith, linear, int_max_is)
+
+-- ---- how far along a direction a part of the demand is
+
+-- what is below one more than the floor is no more than the quotient
+pub up_to_floor : (p b f : ℤ) → pos 1 ≤ℤ b → (f *ℤ b) ≤ℤ p → (s : ℤ) → s <ℤ (f +ℤ pos 1) →
+    (s *ℤ b) ≤ℤ p
+up_to_floor p b f some below s less =
+    let grown = mul_le_right s f b (omega (arith, linear, less)) (omega (arith, linear)) in
+    omega (arith, linear, grown, below)
+
+pub floor_fits : (p b f : ℤ) → pos 1 ≤ℤ b → pos 0 ≤ℤ p → p ≤ℤ pos (2 ^ 126) → IsFloor p b f →
+    SFits w128 (f +ℤ pos 1)
+floor_fits p b f some low high floor =
+    let none : pos 0 *ℤ b ≡ pos 0 = ring (b ∷ []) (search reads depth 40) refl in
+    let from_0 = floor.greatest (pos 0) (omega (arith, linear, none, low)) in
+    let grown = mul_le_left (pos 1) b f some from_0 in
+    let one : f *ℤ pos 1 ≡ f = ring (f ∷ []) (search reads depth 40) refl in
+    let below = floor.below in
+    known_fits w128 (f +ℤ pos 1) (f +ℤ pos 1) (pos 0) (pos (2 ^ 127 - 1))
+    (record {
+      is = refl;
+      from_low = omega (arith, linear, from_0);
+      to_high = omega (arith, linear, grown, one, below, high);
+    }) tt

@@ -1,6 +1,10 @@
 -- The first choice that reaches farthest, while choices are taken in turn.
 use Rattle.std.proofs.Common.{◌≡◌, inl, inr, ℕ, ◌+◌, ◌<◌, ◌≤◌, ℤ, pos, ◌*ℤ◌, ◌≤ℤ◌, ◌<ℤ◌, sym, ap}
-use Rattle.std.proofs.Common.{[], ◌∷◌, ◌∙◌, refl, subst, below_more, arith}
+use Rattle.std.proofs.Common.{[], ◌∷◌, ◌∙◌, ◌-◌, max, Bool, true, false, refl, subst, below_more, arith}
+use Rattle.std.proofs.Math.Dec.{ltb}
+use Rattle.std.proofs.Math.Nat.{le-max_right, max-eq_left, max-eq_right}
+use Rattle.std.proofs.lemmas.Bool.{ltb-true}
+use Rattle.std.proofs.lemmas.Bool.Decides.{nat_tests}
 use Rattle.int_ring.proofs.Laws.{linear}
 use Rattle.int_ring.proofs.Ring.{ring, reads}
 use Rattle.int_ring.proofs.Order.{fraction_le_lt_trans, mul_le_right}
@@ -102,3 +106,76 @@ module _ (question : Question) (k : ℕ) (best new : Reach) (farthest : IsFarthe
       subst (IsFarthest question (k + 1)) (sym second.0) (new_stands second.1)
   farthest_more more (inr first) =
       subst (IsFarthest question (k + 1)) (sym first.0) (old_stays first.1)
+
+-- more choices that can't give a greater part
+pub farthest_past : (question : Question) (k n from count : ℕ) (best : Reach) → k ≤ n →
+    IsFarthest question k best → from ≤ k → n ≤ from + count →
+    ((m : ℕ) → m < count →
+    IsGreatestIn question (from + m) best.part.top best.part.bottom) → IsFarthest question n best
+farthest_past question k n from count best fewer farthest early far none =
+    let below = farthest.below in
+    record {
+      reached = farthest.reached;
+      below = omega (arith, below, fewer);
+      greatest = λ choice there. by_test choice there (ltb choice k) refl;
+      first = farthest.first;
+    }
+  where
+    by_test : (choice : ℕ) → choice < n → (b : Bool) → ltb choice k ≡ b →
+        IsGreatestIn question choice best.part.top best.part.bottom
+    by_test choice there true test = farthest.greatest choice (ltb-true choice k test)
+    by_test choice there false test =
+        let past : k ≤ choice = grind (arith, nat_tests) in
+        let same : from + (choice - from) ≡ choice = omega (arith, past, early) in
+        subst (λ (i : ℕ). IsGreatestIn question i best.part.top best.part.bottom) same
+        (none (choice - from) (omega (arith, past, early, far, there)))
+
+-- what is below the greater of a count and 1, and isn't 0, is below the count
+below_count : (m count : ℕ) → 1 ≤ m → m < max count 1 → m < count
+below_count m count some below = by_test (ltb count 1) refl
+  where
+    by_test : (b : Bool) → ltb count 1 ≡ b → m < count
+    by_test true test =
+        let few = ltb-true count 1 test in
+        let one : max count 1 ≡ 1 = max-eq_right (omega (arith, few)) in
+        omega (arith, some, below, one)
+    by_test false test =
+        let many : 1 ≤ count = grind (arith, nat_tests) in
+        let all : max count 1 ≡ count = max-eq_left many in
+        omega (arith, below, all)
+
+pub to_max : (k count n all : ℕ) → n ≡ max count 1 → k < all → k + count ≤ all → k + n ≤ all
+to_max k count n all is there far = by_test (ltb count 1) refl
+  where
+    by_test : (b : Bool) → ltb count 1 ≡ b → k + n ≤ all
+    by_test true test =
+        let few = ltb-true count 1 test in
+        let one : max count 1 ≡ 1 = max-eq_right (omega (arith, few)) in
+        omega (arith, there, is, one)
+    by_test false test =
+        let many : 1 ≤ count = grind (arith, nat_tests) in
+        let same : max count 1 ≡ count = max-eq_left many in
+        omega (arith, far, is, same)
+
+pub from_max : (count n : ℕ) → n ≡ max count 1 → 1 ≤ n
+from_max count n is =
+    let some = le-max_right count 1 in omega (arith, is, some)
+
+-- the choice itself, and as many from it on as can't give a greater part
+pub farthest_on : (question : Question) (k count n : ℕ) (best : Reach) →
+    IsFarthest question (k + 1) best → n ≡ max count 1 →
+    ((m : ℕ) → m < count →
+    IsGreatestIn question (k + m) best.part.top best.part.bottom) → IsFarthest question (k + n) best
+farthest_on question k count n best farthest is none =
+    let some = from_max count n is in
+    farthest_past question (k + 1) (k + n) k n best (omega (arith, some)) farthest (omega arith)
+    (omega arith) (λ m below. by_test m below (ltb 0 m) refl)
+  where
+    by_test : (m : ℕ) → m < n → (b : Bool) → ltb 0 m ≡ b →
+        IsGreatestIn question (k + m) best.part.top best.part.bottom
+    by_test m below true test =
+        let some = ltb-true 0 m test in
+        none m (below_count m count (omega (arith, some)) (subst (λ (i : ℕ). m < i) is below))
+    by_test m below false test =
+        let low : m ≤ 0 = grind (arith, nat_tests) in
+        farthest.greatest (k + m) (omega (arith, low))

@@ -10,8 +10,11 @@ ghost use Rattle.wrench_geometry.specs.Wrenches.{IsDemandVector};
 ghost use Rattle.certificate.specs.Outcomes.{question_of};
 ghost use Rattle.allocator.specs.Reaches.{AreAtRest, IsFarther, IsFarthest, IsReach, denominator_of};
 
+use crate::passing::{passed, passed_along};
+use arrayvec::ArrayVec;
 use dp_num::{Fraction, compare, reduce};
 use exit_point::{ExitWeights, exit};
+use plant_model::limits::MOST_CHOICES;
 use plant_model::plant::Plant;
 use std::cmp::Ordering;
 use thrust_region::{Regions, choice, choices};
@@ -40,11 +43,26 @@ pub fn farthest_reach(plant: &Plant, regions: &Regions, demand: Vec3) -> Reach
         (choices_of (map all_points regions.now.list.items)) result }
 {
     let mut best = reach_in(plant, regions, 0, demand);
+    let mut directions: ArrayVec<Vec3, MOST_CHOICES> = ArrayVec::new();
+    directions.push(best.exit.cut.w);
+    let mut done = 1;
     for k in 1..choices(regions) {
         if best.part.top == best.part.bottom {
             return best;
         }
-        best = farther(best, reach_in(plant, regions, k, demand));
+        if k < done {
+            continue;
+        }
+        let passed = passed(plant, regions, k, demand, best.part, directions.as_slice());
+        if passed > 0 {
+            done = k + passed;
+            continue;
+        }
+        let reach = reach_in(plant, regions, k, demand);
+        let w = reach.exit.cut.w;
+        directions.push(w);
+        best = farther(best, reach);
+        done = k + passed_along(plant, regions, k, demand, best.part, w).max(1);
     }
     best
 }
