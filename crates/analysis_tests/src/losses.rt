@@ -6,12 +6,14 @@ use crate::statuses::{
     SECTION_A, SIX, THIRD,
 };
 use example_plants::{built_in, guarded_ship, ship, ship_of_five, ship_of_six};
+use feasibility::{cut_off_from, spread};
 use plant_model::plant::Plant;
 use plant_model::status::{Loss, Status};
 use plant_model::thrust::Point;
 use plant_model::wrench::Load;
 use redundancy_groups::{fixed_load, standing, surviving};
 use thrust_region::{Regions, choices};
+use wrench_geometry::Vec3;
 
 const AHEAD: Point = Point { x: 400, y: 0 };
 
@@ -211,4 +213,18 @@ fn a_barred_piece_halves_the_choices(rt: HostRuntime) {
         let regions = surviving(&plant, &with_barred(mask), Loss::Intact);
         assert_eq!(rt; choices(&regions), count, "at {mask}");
     }
+}
+
+#[test]
+fn one_direction_cuts_off_both_choices(rt: HostRuntime) {
+    let plant = built_in();
+    let regions = surviving(&plant, &OPEN, SECTION_A);
+    let w = Vec3 {
+        x: 100,
+        y: 400,
+        z: 1,
+    };
+    assert_eq!(rt; spread(&plant, &regions, &[], w), 152_000);
+    assert_eq!(rt; cut_off_from(&plant, &regions, 0, w, 152_001), 2);
+    assert_eq!(rt; cut_off_from(&plant, &regions, 0, w, 152_000), 0);
 }
