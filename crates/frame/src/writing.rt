@@ -28,9 +28,7 @@ pub fn write_frame(body: &Body) -> ArrayVec<u8, MOST_FRAME_TEXT_BYTES>
     let sum = checksum(bytes);
     let mut text = ArrayVec::new();
     text.push(b'$');
-    for byte in bytes {
-        text.push(*byte);
-    }
+    text.try_extend_from_slice(bytes).unwrap();
     text.push(b'*');
     text.push(upper_digit(sum / 16));
     text.push(upper_digit(sum % 16));
