@@ -104,5 +104,11 @@ fn two_tunnels_are_answered(rt: HostRuntime) -> Result<(), Fail> {
 fn no_thruster_is_answered(rt: HostRuntime) -> Result<(), Fail> {
     let exit = exit_of(&Sums::new(), at(1, 0, 0)).ok_or("zero")?;
     assert_eq!(rt; exit.t, 0);
+    let mut four_out = Sums::new();
+    for _ in 0..4 {
+        add(&mut four_out, (400, 0), &[]);
+    }
+    let exit = exit_of(&four_out, at(1, 0, 0)).ok_or("zero")?;
+    assert_eq!(rt; (exit.cut.w, exit.t), (at(1, 0, 0), 0));
     Ok(())
 }
