@@ -55,6 +55,7 @@ impl Framer {
     }
 
     /// Takes the next byte, and gives the item that it completes. None where it completes none.
+    #[inline(always)]
     pub fn feed(&mut self, byte: u8) -> Option<Item>
         ensures items { (fed : List ℕ) → StandsFor self.old fed
             → items (fed ++ byte ∷ []) ≡ items fed ++ option_to_list result }
@@ -73,6 +74,7 @@ impl Framer {
     }
 
     /// The item of the line that a line feed ends. The next line has no byte yet.
+    #[inline(never)]
     fn end_line(&mut self) -> Option<Item>
         ensures item { (fed : List ℕ) → StandsFor self.old fed → items (fed ++ line_feed ∷ [])
             ≡ items fed ++ option_to_list result }

@@ -8,7 +8,7 @@ ghost use Rattle.plant_model.specs.Numbers.{IsWithin};
 use crate::reference::{REFERENCES, Reference};
 use frame::Body;
 use plant_model::limits::{LAST_MOMENT, MOST_POSITION, WHOLE_TURN};
-use telegram::{Reject, number};
+use telegram::{Reject, number_in};
 
 /// The text's first field, and what stands after the comma that ends it.
 fn first_field(text: &str) -> (&str, Option<&str>)
@@ -42,7 +42,7 @@ fn natural(field: &str, low: u32, high: u32) -> Result<u32, Reject>
     ensures above { IfOk result (λ n. low ≤ n) }
     ensures below { IfOk result (λ n. n ≤ high) }
 {
-    let value = number(field.as_bytes(), i64::from(low), i64::from(high))?;
+    let value = number_in(field, i64::from(low), i64::from(high))?;
     Ok(value as u32)
 }
 
@@ -51,7 +51,7 @@ fn position(field: &str) -> Result<i32, Reject>
     ensures within { IfOk result (λ z. IsWithin MOST_POSITION z) }
 {
     let most = i64::from(MOST_POSITION);
-    let value = number(field.as_bytes(), -most, most)?;
+    let value = number_in(field, -most, most)?;
     Ok(value as i32)
 }
 
@@ -79,7 +79,7 @@ fn reference(rest: Option<&str>) -> Result<Reference, Reject>
 /// The moment t is in ms, the number i from 1 to 3, the position x and y in cm within
 /// [`MOST_POSITION`] and the heading h in centidegrees below a whole turn. The refusal is the first in
 /// this order: `Count` for another number of fields, and then of the fields from left to right
-/// `Number` and `Range`, as [`number`] says.
+/// `Number` and `Range`, as [`number_in`] says.
 pub fn read_reference(body: &Body) -> Option<Result<Reference, Reject>>
     ensures read { result ≡ reference_of body.now }
     ensures within { IfSome result (λ read. IfOk read IsReference) }

@@ -19,7 +19,7 @@ use Rattle.std.specs.Str.{IsUtf8}
 use Rattle.std.specs.Str.Parse.{AllDigits, IsNumeral, digits_value, signed_digits_value}
 use Rattle.std.specs.Str.Parse.{starts_with_minus, without_leading_sign}
 use Rattle.telegram.specs.Numbers.{is_digit, is_led_well, is_natural, is_number, minus, number_of}
-use Rattle.telegram.specs.declared.telegram.Reject.TheVariants.{Range}
+use Rattle.telegram.specs.declared.telegram.Reject.TheVariants.{Number, Range}
 
 -- where the first byte is right, the test of each byte decides
 pub is_natural-from_list_all : (digits : List ℕ) (good : Bool) → 1 ≤ length digits
@@ -252,6 +252,15 @@ fits_between low (pos n) (negsuc h) above below low_fits high_fits = absurd (ome
 fits_between (pos l) (negsuc n) high above below low_fits high_fits = absurd (omega (arith, ints))
 fits_between (negsuc l) (negsuc n) high above below low_fits high_fits =
     record { sfits = omega (arith, ints, low_fits.sfits) }
+
+-- what is no text spells no number
+pub number_of-no_text : (field : List ℕ) (low high : ℤ) → ¬ (IsUtf8 field)
+    → Err Number ≡ number_of field low high
+number_of-no_text field low high other = by_test (is_number field) refl
+  where
+    by_test : (good : Bool) → good ≡ is_number field → Err Number ≡ number_of field low high
+    by_test true is = absurd (other (IsUtf8-from_is_number field (sym is)))
+    by_test false is = grind (arith, is)
 
 -- a number that `parse` does not read at 64 bits is out of every range of theirs
 pub number_of-unread : (field : List ℕ) (low high : ℤ) → is_number field ≡ true → FitsSigned w64 low

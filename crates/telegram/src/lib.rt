@@ -9,7 +9,7 @@ mod reading;
 mod telegram;
 mod writing;
 
-pub use numbers::number;
+pub use numbers::{number, number_in};
 pub use reading::read;
 pub use telegram::{Reject, Telegram};
 pub use writing::{telegrams_are_exact, write};

@@ -36,6 +36,23 @@ fn is_number(field: &[u8]) -> bool
     }
 }
 
+/// The number that a field's text spells, from `low` to `high`: [`number`] of its bytes.
+pub fn number_in(field: &str, low: i64, high: i64) -> Result<i64, Reject>
+    ensures value { result ≡ number_of field.now low high }
+    ensures within { IfOk result (λ z. IsFromTo low high z) }
+{
+    if !is_number(field.as_bytes()) {
+        return Err(Reject::Number);
+    }
+    let Ok(value) = field.parse::<i64>() else {
+        return Err(Reject::Range);
+    };
+    if value < low || high < value {
+        return Err(Reject::Range);
+    }
+    Ok(value)
+}
+
 /// The number that a field spells, from `low` to `high`. It is `Number` exactly where the field
 /// isn't spelled as a number, and `Range` exactly where its value, however long, is out of the
 /// range.
@@ -43,17 +60,8 @@ pub fn number(field: &[u8], low: i64, high: i64) -> Result<i64, Reject>
     ensures value { result ≡ number_of field.now low high }
     ensures within { IfOk result (λ z. IsFromTo low high z) }
 {
-    if !is_number(field) {
-        return Err(Reject::Number);
+    match str::from_utf8(field) {
+        Ok(text) => number_in(text, low, high),
+        Err(_) => Err(Reject::Number),
     }
-    let Ok(text) = str::from_utf8(field) else {
-        return Err(Reject::Number);
-    };
-    let Ok(value) = text.parse::<i64>() else {
-        return Err(Reject::Range);
-    };
-    if value < low || high < value {
-        return Err(Reject::Range);
-    }
-    Ok(value)
 }

@@ -9,7 +9,7 @@ ghost use Rattle.telegram.specs.declared.telegram.Reject.{Reject};
 ghost use Rattle.telegram.specs.declared.telegram.Telegram.{Telegram};
 ghost use Rattle.telegram.specs.declared.telegram.Telegram.TheVariants.{Board};
 
-use crate::numbers::number;
+use crate::numbers::number_in;
 use crate::telegram::{Reject, Telegram};
 use frame::Body;
 use plant_model::limits::{
@@ -84,14 +84,14 @@ fn four_fields(rest: Option<&str>) -> Result<(&str, &str, &str, &str), Reject>
 fn natural(field: &str, low: u32, high: u32) -> Result<u32, Reject>
     ensures { result ≡ natural_of low high field.now }
 {
-    let value = number(field.as_bytes(), i64::from(low), i64::from(high))?;
+    let value = number_in(field, i64::from(low), i64::from(high))?;
     Ok(value as u32)
 }
 
 fn whole(field: &str, low: i32, high: i32) -> Result<i32, Reject>
     ensures { result ≡ number_of field.now low high }
 {
-    let value = number(field.as_bytes(), i64::from(low), i64::from(high))?;
+    let value = number_in(field, i64::from(low), i64::from(high))?;
     Ok(value as i32)
 }
 
@@ -265,7 +265,7 @@ fn switched(kind: &str, rest: Option<&str>) -> Result<Telegram, Reject>
 ///
 /// The refusal is the first in this order: `Kind` where the first field is no telegram's, `Count`
 /// for another number of fields, and then the fields from left to right: `Number` and `Range` as
-/// [`number`] says, and `Word` for a field that is no name or no word of the telegram.
+/// [`number_in`] says, and `Word` for a field that is no name or no word of the telegram.
 pub fn read(body: &Body) -> Result<Telegram, Reject>
     ensures { result ≡ telegram body.now }
 {
