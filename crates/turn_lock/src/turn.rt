@@ -20,7 +20,8 @@ use std::alloc::Global;
 use std::marker::Model;
 use std::snapshot::Snapshot;
 use std::sync::Wait;
-use std::thread;
+use std::sync::atomic::{AtomicU64, Ordering};
+use std::{hint, thread};
 
 // The words of the table: the tickets drawn and the turns served.
 const DRAWN: usize = 0;
@@ -30,14 +31,19 @@ const SERVED: usize = 1;
 // The slot of the value.
 const VALUE: usize = 0;
 
+// How often a caller looks before it lets others run between its looks.
+const SPINS: u32 = 200;
+
 // How often a caller looks before it sleeps.
-const LOOKS: u32 = 100;
+const LOOKS: u32 = 300;
 
 /// A lock round a value. To a contract it is what tells it from any other lock, and a pass is used
 /// with the lock that made it.
 #[derive(Drop)]
 pub struct Turn<K: Keeps> {
     table: Desk<K>,
+    // How many callers sleep or are about to.
+    sleepers: AtomicU64,
 }
 
 impl<K: Keeps> Model for Turn<K> {
@@ -67,7 +73,10 @@ impl<K: Keeps> Turn<K> {
         slots.push_reserved(Some(value));
         match Table::new(alloc, &[0, 0], slots, &opened) {
             Ok((table, seat)) => Ok((
-                Turn { table },
+                Turn {
+                    table,
+                    sleepers: AtomicU64::new(0),
+                },
                 Pass {
                     caller: 0,
                     next: 1,
@@ -108,11 +117,10 @@ impl<K: Keeps> Turn<K> {
         ensures sound { IsSound K.caller_of pass.new }
     {
         self.put(&mut pass.seat, value);
-        let turn = self
-            .table
+        self.table
             .shared
             .fetch_add::<ServeEntry>(&mut pass.seat, SERVED, 1);
-        self.wake_after(turn);
+        self.wake();
     }
 
     /// Gives the value back as it was.
@@ -124,11 +132,10 @@ impl<K: Keeps> Turn<K> {
         ensures { pass.new ≡ record pass.old { holds = false } }
     {
         self.put(&mut pass.seat, value);
-        let turn = self
-            .table
+        self.table
             .shared
             .fetch_add::<Serve>(&mut pass.seat, SERVED, 1);
-        self.wake_after(turn);
+        self.wake();
     }
 
     /// A new pass, with the next number, for a caller of its own. That number is at most
@@ -214,7 +221,7 @@ impl<K: Keeps> Turn<K> {
             next: _,
             seat,
         } = root;
-        let Turn { table } = self;
+        let Turn { table, sleepers: _ } = self;
         let mut closed = table.close_with(seat);
         let last = closed.take(VALUE);
         closed.free();
@@ -292,19 +299,26 @@ impl<K: Keeps> Turn<K> {
 
     // Waits for a short while, or, after many looks, until another turn than this is served.
     fn pause<R: Wait>(&self, rt: &R, looks: u32, turn: u64) -> u32 {
+        if looks < SPINS {
+            hint::spin_loop();
+            return looks + 1;
+        }
         if looks < LOOKS {
             thread::yield_now();
             return looks + 1;
         }
+        self.sleepers.fetch_add(1, Ordering::SeqCst);
         self.table
             .shared
             .park(rt, SERVED, (turn & u64::from(u32::MAX)) as u32);
+        self.sleepers.fetch_sub(1, Ordering::SeqCst);
         looks
     }
 
-    // Wakes those who wait, where a caller has drawn a ticket past this turn.
-    fn wake_after(&self, turn: u64) {
-        if self.table.shared.peek(DRAWN) != turn.wrapping_add(1) {
+    // Wakes those who sleep. A caller that counts itself after this look finds the turn served, and
+    // doesn't sleep.
+    fn wake(&self) {
+        if self.sleepers.load(Ordering::SeqCst) != 0 {
             self.table.shared.wake_all(SERVED);
         }
     }

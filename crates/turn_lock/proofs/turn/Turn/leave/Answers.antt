@@ -3,8 +3,8 @@ use Rattle.turn_lock.proofs.Seats.{at_rest_holding}
 use Rattle.turn_lock.proofs.Turns.{serves_at}
 use Rattle.turn_lock.proofs.turn.Turn.leave.Goals as goal
 
-pub fetch_add-turn-requires : goal.fetch_add-turn-requires
-fetch_add-turn-requires g c =
+pub fetch_add-requires : goal.fetch_add-requires
+fetch_add-requires g c =
     let put = c.put.ensures.held in
     let rest = at_rest_holding _ _ c.pass.invariant.still
     (ap (λ p. p.holds) c.pass.view_is ∙ c.requires.holds) in (

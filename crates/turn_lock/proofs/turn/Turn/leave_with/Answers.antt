@@ -5,8 +5,8 @@ use Rattle.turn_lock.proofs.Seats.{at_rest_holding}
 use Rattle.turn_lock.proofs.Turns.{serves_entry_at}
 use Rattle.turn_lock.proofs.turn.Turn.leave_with.Goals as goal
 
-pub fetch_add-turn-requires : goal.fetch_add-turn-requires
-fetch_add-turn-requires g c =
+pub fetch_add-requires : goal.fetch_add-requires
+fetch_add-requires g c =
     let put = c.put.ensures.held in
     let rest = at_rest_holding _ _ c.pass.invariant.still
     (ap (λ p. p.holds) c.pass.view_is ∙ c.requires.holds) in
@@ -29,11 +29,11 @@ fetch_add-turn-requires g c =
 pub invariant_of-pass : goal.invariant_of-pass
 invariant_of-pass g c =
     let put = c.put.ensures.held in
-    let serve = c.fetch_add-turn.ensures.2 in
+    let serve = c.fetch_add.ensures.2 in
     rests g.K.Keeps.entries g.K.Keeps.base_of g.K.Keeps.caller_of c.pass.inside.caller
-    c.pass.inside.next c.fetch_add-turn.new.seat.table_id
+    c.pass.inside.next c.fetch_add.new.seat.table_id
     (served_with g.K.Keeps.caller_of c.put.new.seat.me.0 (g.K.Keeps.entries c.args.value), [])
-    c.fetch_add-turn.new.seat.me
+    c.fetch_add.new.seat.me
     (serve.seat c.args.value (ap (λ m. m.1) put))
     (ap (λ m. m.0.known.caller) put ∙ c.pass.invariant.same_caller)
     (ap (λ m. m.0.known.next) put ∙ c.pass.invariant.same_next) refl serve.sound
@@ -41,11 +41,11 @@ invariant_of-pass g c =
 pub returns-clause-sound : goal.returns-clause-sound
 returns-clause-sound g c =
     let put = c.put.ensures.held in
-    let serve = c.fetch_add-turn.ensures.2 in
+    let serve = c.fetch_add.ensures.2 in
     (rests g.K.Keeps.entries g.K.Keeps.base_of g.K.Keeps.caller_of c.pass.inside.caller
-    c.pass.inside.next c.fetch_add-turn.new.seat.table_id
+    c.pass.inside.next c.fetch_add.new.seat.table_id
     (served_with g.K.Keeps.caller_of c.put.new.seat.me.0 (g.K.Keeps.entries c.args.value), [])
-    c.fetch_add-turn.new.seat.me
+    c.fetch_add.new.seat.me
     (serve.seat c.args.value (ap (λ m. m.1) put))
     (ap (λ m. m.0.known.caller) put ∙ c.pass.invariant.same_caller)
     (ap (λ m. m.0.known.next) put ∙ c.pass.invariant.same_next) refl serve.sound).sound
