@@ -1,7 +1,10 @@
 //! Tests of all that leads to a verdict on a loss: islands and shares of power, what thrusters give
-//! after a loss, their vectors, least cuts, exits, the checker, and the analysis. By public calls alone.
+//! after a loss, their vectors, least cuts, exits, the checker, and the analysis; and of what losses
+//! leave of demands and of the wind. By public calls alone.
 #![tactic(auto)]
 
+#[cfg(test)]
+mod capabilities;
 #[cfg(test)]
 mod checker;
 #[cfg(test)]
