@@ -22,7 +22,7 @@ use Rattle.plant_model.specs.declared.wrench.Wrench.{Wrench}
 use Rattle.log_text.specs.Commands.{IsPart, command_body, command_head, part_text, thrust_body}
 use Rattle.log_text.specs.Outcomes.{thrust_text, wrench_text}
 
-part-append : {m n : ℕ} {xs ys : List ℕ} → IsPart m xs → IsPart n ys → IsPart (m + n) (xs ++ ys)
+pub part-append : {m n : ℕ} {xs ys : List ℕ} → IsPart m xs → IsPart n ys → IsPart (m + n) (xs ++ ys)
 part-append {m} {n} {xs} {ys} first second =
     let front = first.each in
     let back = second.each in
@@ -31,16 +31,16 @@ part-append {m} {n} {xs} {ys} first second =
       each = list_all-append is_body_byte xs ys ∙ rw (front, back) refl;
     }
 
-part-known : (bytes : List ℕ) → list_all is_body_byte bytes ≡ true
+pub part-known : (bytes : List ℕ) → list_all is_body_byte bytes ≡ true
     → IsPart (length bytes) bytes
 part-known bytes each = record { few = omega arith; each = each }
 
 -- a field more, after a comma
-part-field : {m n : ℕ} {xs ys : List ℕ} → IsPart m xs → IsPart n ys
+pub part-field : {m n : ℕ} {xs ys : List ℕ} → IsPart m xs → IsPart n ys
     → IsPart (m + 1 + n) (xs ++ codes "," ++ ys)
 part-field first second = part-append (part-append first (part-known (codes ",") refl)) second
 
-is_body-part : (most : ℕ) (bytes : List ℕ) → IsPart most bytes → most ≤ MOST_BODY_BYTES
+pub is_body-part : (most : ℕ) (bytes : List ℕ) → IsPart most bytes → most ≤ MOST_BODY_BYTES
     → 1 ≤ length bytes → is_body bytes ≡ true
 is_body-part most bytes part small some =
     let few : length bytes ≤ MOST_BODY_BYTES = omega (arith, part.few) in
@@ -58,13 +58,13 @@ each-digits (b ∷ bs) each =
     let others : list_all is_body_byte bs ≡ true = each-digits bs each.1 in
     grind (arith, nat_tests)
 
-part-decimal : (k n : ℕ) → 0 < k → n < 10 ^ k → n < 10 ^ 64 → IsPart k (decimal n)
+pub part-decimal : (k n : ℕ) → 0 < k → n < 10 ^ k → n < 10 ^ 64 → IsPart k (decimal n)
 part-decimal k n some few wide = record {
   few = length-decimal-le_wide k n some few wide;
   each = each-digits (decimal n) (decimal_is_IsNumeral_wide n wide).0.1;
 }
 
-part-signed : (k : ℕ) (z : ℤ) → 0 < k → nat_abs z < 10 ^ k → nat_abs z < 10 ^ 64
+pub part-signed : (k : ℕ) (z : ℤ) → 0 < k → nat_abs z < 10 ^ k → nat_abs z < 10 ^ 64
     → IsPart (1 + k) (signed_decimal z)
 part-signed k (pos n) some few wide =
     let digits = part-decimal k n some few wide in
@@ -73,23 +73,23 @@ part-signed k (negsuc n) some few wide =
     part-append {m = 1} {n = k} {xs = 45 ∷ []} (record { few = omega arith; each = refl })
     (part-decimal k (suc n) some few wide)
 
-part-u32 : (n : ℕ) → n < 2 ^ 32 → IsPart 10 (decimal n)
+pub part-u32 : (n : ℕ) → n < 2 ^ 32 → IsPart 10 (decimal n)
 part-u32 n small = part-decimal 10 n (omega arith) (omega arith) (omega arith)
 
 -- whatever the numbers of the types
-part-i32 : (z : ℤ) → FitsSigned w32 z → IsPart 11 (signed_decimal z)
+pub part-i32 : (z : ℤ) → FitsSigned w32 z → IsPart 11 (signed_decimal z)
 part-i32 (pos n) fits =
     part-signed 10 (pos n) (omega arith) (omega (arith, fits.sfits)) (omega (arith, fits.sfits))
 part-i32 (negsuc n) fits =
     part-signed 10 (negsuc n) (omega arith) (omega (arith, fits.sfits)) (omega (arith, fits.sfits))
 
-part-i64 : (z : ℤ) → FitsSigned w64 z → IsPart 20 (signed_decimal z)
+pub part-i64 : (z : ℤ) → FitsSigned w64 z → IsPart 20 (signed_decimal z)
 part-i64 (pos n) fits =
     part-signed 19 (pos n) (omega arith) (omega (arith, fits.sfits)) (omega (arith, fits.sfits))
 part-i64 (negsuc n) fits =
     part-signed 19 (negsuc n) (omega arith) (omega (arith, fits.sfits)) (omega (arith, fits.sfits))
 
-part-i128 : (z : ℤ) → FitsSigned w128 z → IsPart 40 (signed_decimal z)
+pub part-i128 : (z : ℤ) → FitsSigned w128 z → IsPart 40 (signed_decimal z)
 part-i128 (pos n) fits =
     part-signed 39 (pos n) (omega arith) (omega (arith, fits.sfits)) (omega (arith, fits.sfits))
 part-i128 (negsuc n) fits =
@@ -110,7 +110,7 @@ each-name (b ∷ bs) each =
     name_byte : (b : ℕ) → is_name_byte b ≡ true → is_body_byte b ≡ true
     name_byte b good = grind (arith, nat_tests)
 
-part-name : (name : List ℕ) → is_name name ≡ true → IsPart MOST_NAME_BYTES name
+pub part-name : (name : List ℕ) → is_name name ≡ true → IsPart MOST_NAME_BYTES name
 part-name name good =
     let each : list_all is_name_byte name ≡ true = grind (arith, nat_tests) in
     record { few = grind (arith, nat_tests); each = each-name name each }

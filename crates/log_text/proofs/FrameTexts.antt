@@ -19,7 +19,7 @@ IsAsciiByte b = b < 128
 each_body_byte : (body : List ℕ) → is_body body ≡ true → list_all is_body_byte body ≡ true
 each_body_byte body good = grind (arith, nat_tests)
 
-ascii-body : (bytes : List ℕ) → list_all is_body_byte bytes ≡ true → All IsAsciiByte bytes
+pub ascii-body : (bytes : List ℕ) → list_all is_body_byte bytes ≡ true → All IsAsciiByte bytes
 ascii-body [] each = All-nil IsAsciiByte
 ascii-body (b ∷ bs) each =
     let others : list_all is_body_byte bs ≡ true = grind (arith, nat_tests) in

@@ -157,10 +157,10 @@ outcome-told (Holds choice q thrusts) fits =
     ap₂ (λ (c : ℕ) (d : ℤ). Holds c d (thrusts_of (thrust_fields thrusts.list.items)))
     (word-told choice fits.0) (told64 q fits.1)
     ∙ ap (λ (items : List Thrust). Holds choice q (record { list = record { items = items } }))
-    (thrusts-told thrusts.list.items (recursion_from_All FitsThrust thrusts.list.items fits.2))
+    (thrusts-told thrusts.list.items (recursion_from_All FitsThrust thrusts.list.items fits.2.each))
 outcome-told (Lost cuts) fits =
     ap (λ (items : List Vec3). Lost (record { list = record { items = items } }))
-    (cuts-told cuts.list.items (recursion_from_All FitsVector cuts.list.items fits))
+    (cuts-told cuts.list.items (recursion_from_All FitsVector cuts.list.items fits.each))
 
 -- ---- demands
 
@@ -236,4 +236,4 @@ allocation-told a fits =
       choice = a.choice;
       q = a.q;
       thrusts = record { list = record { items = items } };
-    }) (fraction-told a.fraction) (thrusts-told a.thrusts.list.items (recursion_from_All FitsThrust a.thrusts.list.items fits.thrusts))
+    }) (fraction-told a.fraction) (thrusts-told a.thrusts.list.items (recursion_from_All FitsThrust a.thrusts.list.items fits.thrusts.each))

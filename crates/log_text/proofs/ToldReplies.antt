@@ -32,7 +32,7 @@ use Rattle.log_text.proofs.ToldOutcomes.{wrench-told, wrench_at}
 
 -- ---- colons
 
-abbrev colon : ℕ
+abbrev pub colon : ℕ
 colon = 58
 
 abbrev before_colon : List ℕ → List ℕ
@@ -43,7 +43,7 @@ abbrev after_colon : List ℕ → List ℕ
 after_colon [] = []
 after_colon (b ∷ bs) = if b == colon then bs else after_colon bs
 
-no_colon : (b : ℕ) → is_digit b ≡ true → (b == colon) ≡ false
+pub no_colon : (b : ℕ) → is_digit b ≡ true → (b == colon) ≡ false
 no_colon b good = grind (arith, nat_tests)
 
 before-digits : (digits rest : List ℕ) → list_all is_digit digits ≡ true
@@ -62,11 +62,11 @@ after-digits (b ∷ bs) rest good =
 
 -- ---- cells
 
-abbrev cell_words : Bool → Bool → List ℕ
+abbrev pub cell_words : Bool → Bool → List ℕ
 cell_words holds current = (if holds then codes "HOLDS" else codes "LOST") ++ codes ":"
     ++ (if current then codes "CURRENT" else codes "SUPERSEDED")
 
-abbrev cell_field : Cell → List ℕ
+abbrev pub cell_field : Cell → List ℕ
 cell_field Pending = codes "PENDING"
 cell_field (Seen version holds current) = decimal version ++ colon ∷ cell_words holds current
 
@@ -117,7 +117,7 @@ words-field true false = refl
 words-field false true = refl
 words-field false false = refl
 
-cell-field : (cell : Cell) → is_field (cell_field cell) ≡ true
+pub cell-field : (cell : Cell) → is_field (cell_field cell) ≡ true
 cell-field Pending = refl
 cell-field (Seen version holds current) =
     all_good-append is_field_byte (decimal version) (colon ∷ cell_words holds current)
@@ -130,18 +130,18 @@ cell-spelled (Seen version true false) = simp append_assoc
 cell-spelled (Seen version false true) = simp append_assoc
 cell-spelled (Seen version false false) = simp append_assoc
 
-abbrev cell_fields : List Cell → List (List ℕ)
+abbrev pub cell_fields : List Cell → List (List ℕ)
 cell_fields cells = map cell_field cells
 
 abbrev cells_in : List (List ℕ) → List Cell
 cells_in fields = map cell_in fields
 
-cells-led : (cells : List Cell) → flat_map cell_text cells ≡ led (cell_fields cells)
+pub cells-led : (cells : List Cell) → flat_map cell_text cells ≡ led (cell_fields cells)
 cells-led [] = refl
 cells-led (cell ∷ cells) =
     ap₂ (λ (first rest : List ℕ). first ++ rest) (cell-spelled cell) (cells-led cells)
 
-cells-fields : (cells : List Cell) → list_all is_field (cell_fields cells) ≡ true
+pub cells-fields : (cells : List Cell) → list_all is_field (cell_fields cells) ≡ true
 cells-fields [] = refl
 cells-fields (cell ∷ cells) = rw (cell-field cell, cells-fields cells) refl
 
@@ -154,7 +154,7 @@ cells-told (cell ∷ cells) fits =
 
 -- ---- places
 
-abbrev place_fields : Place → List (List ℕ)
+abbrev pub place_fields : Place → List (List ℕ)
 place_fields places.Denominator = codes "DENOMINATOR" ∷ []
 place_fields places.Choice = codes "CHOICE" ∷ []
 place_fields places.ThrustCount = codes "THRUST-COUNT" ∷ []
@@ -205,7 +205,7 @@ place-led (places.Cut k) = simp append-nil
 
 -- ---- replies
 
-abbrev given_part_fields : Allocation → List (List ℕ)
+abbrev pub given_part_fields : Allocation → List (List ℕ)
 given_part_fields a = signed_decimal a.fraction.top ∷ signed_decimal a.fraction.bottom
     ∷ decimal a.choice ∷ signed_decimal a.q ∷ thrust_fields a.thrusts.list.items
 

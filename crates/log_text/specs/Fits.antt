@@ -1,10 +1,13 @@
--- Entries that a program can hold: each number is one of its type.
-use Rattle.std.specs.Prelude.{ℕ, ◌^◌, ◌<◌, List, FitsSigned}
+-- Entries that a program can hold: each number is one of its type, and each list has room for its
+-- items.
+use Rattle.std.specs.Prelude.{ℕ, ◌^◌, ◌<◌, ◌≤◌, List, length, FitsSigned}
 use Rattle.std.specs.Int.{w32, w64, w128}
 use Rattle.std.specs.List.{All}
 use Rattle.plant_model.specs.declared.board.Cell.{Cell}
 use Rattle.plant_model.specs.declared.board.Cell.TheVariants.{Pending, Seen}
 use Rattle.plant_model.specs.declared.board.Cells.{Cells}
+use Rattle.plant_model.specs.declared.limits.TheConstants.{MOST_CHOICES, MOST_GROUPS}
+use Rattle.plant_model.specs.declared.limits.TheConstants.{MOST_THRUSTERS}
 use Rattle.plant_model.specs.declared.thrust.Thrust.{Thrust}
 use Rattle.plant_model.specs.declared.thrust.Thrusts.{Thrusts}
 use Rattle.plant_model.specs.declared.wrench.Wrench.{Wrench}
@@ -29,16 +32,18 @@ pub record FitsThrust (thrust : Thrust) : Type 0 where
   pub x : FitsSigned w128 thrust.x
   pub y : FitsSigned w128 thrust.y
 
-abbrev pub FitsThrusts : Thrusts → Type 0
-FitsThrusts thrusts = All FitsThrust thrusts.list.items
+pub record FitsThrusts (thrusts : Thrusts) : Type 0 where
+  pub few : length thrusts.list.items ≤ MOST_THRUSTERS
+  pub each : All FitsThrust thrusts.list.items
 
 pub record FitsVector (v : Vec3) : Type 0 where
   pub x : FitsSigned w64 v.x
   pub y : FitsSigned w64 v.y
   pub z : FitsSigned w64 v.z
 
-abbrev pub FitsCuts : Cuts → Type 0
-FitsCuts cuts = All FitsVector cuts.list.items
+pub record FitsCuts (cuts : Cuts) : Type 0 where
+  pub few : length cuts.list.items ≤ MOST_CHOICES
+  pub each : All FitsVector cuts.list.items
 
 abbrev pub FitsOutcome : Outcome → Type 0
 FitsOutcome (Holds choice q thrusts) = FitsWord choice × FitsSigned w64 q × FitsThrusts thrusts
@@ -62,6 +67,7 @@ FitsCell (Seen version holds current) = FitsWord version
 
 pub record FitsCells (cells : Cells) : Type 0 where
   pub latest : FitsWord cells.latest
+  pub few : length cells.list.items ≤ MOST_GROUPS
   pub each : All FitsCell cells.list.items
 
 abbrev pub FitsPlace : Place → Type 0

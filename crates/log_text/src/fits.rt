@@ -1,4 +1,4 @@
-//! The numbers of the entries that a program holds are those of their types.
+//! The numbers of the entries that a program holds are those of their types, and its lists have room for their items.
 ghost use Rattle.std.specs.Prelude.{FitsSigned};
 ghost use Rattle.std.specs.Int.{w64};
 ghost use Rattle.log_text.specs.Fits.{AreHeld, FitsAllocation, FitsCall, FitsCell, FitsCells};
@@ -132,7 +132,8 @@ fn entry_fits(entry: &Entry)
     reply_fits(&entry.reply);
 }
 
-/// A history that a program holds is one that a program can hold: each number in it is one of its type.
+/// A history that a program holds is one that a program can hold: each number in it is one of its type, and each list
+/// in it has room for its items.
 pub fn histories_are_held(history: &[Entry])
     ensures { AreHeld history.now }
 {

@@ -1,4 +1,5 @@
 -- Each cell is met.
+use Rattle.std.proofs.Common.{rules}
 use Rattle.plant_model.specs.declared.board.Cell.TheVariants.{Pending}
 use Rattle.log_text.specs.Fits.{FitsCell}
 use Rattle.log_text.proofs.FitLists.{each_met, one_more}
@@ -15,6 +16,7 @@ returns c =
     let read = c.as_slice-cell-items in
     record {
       latest = c.word_fits.ensures;
+      few = search rules;
       each = each_met FitsCell c.args.cells.now.list.items read.result.now c.loop-cell.cell-index read.ensures.value
           c.loop-cell-test.false c.loop-cell.invariant;
     }

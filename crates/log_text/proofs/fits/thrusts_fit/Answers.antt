@@ -1,5 +1,5 @@
 -- Each thrust is met.
-use Rattle.std.proofs.Common.{pos}
+use Rattle.std.proofs.Common.{pos, rules}
 use Rattle.log_text.specs.Fits.{FitsThrust}
 use Rattle.log_text.proofs.FitLists.{each_met, one_more}
 use Rattle.log_text.proofs.fits.thrusts_fit.Goals as goal
@@ -13,5 +13,8 @@ loop-thrust-preserved c =
 pub returns : goal.returns
 returns c =
     let read = c.as_slice-thrust-items in
-    each_met FitsThrust c.args.thrusts.now.list.items read.result.now c.loop-thrust.thrust-index read.ensures.value
-    c.loop-thrust-test.false c.loop-thrust.invariant
+    record {
+      few = search rules;
+      each = each_met FitsThrust c.args.thrusts.now.list.items read.result.now c.loop-thrust.thrust-index read.ensures.value
+          c.loop-thrust-test.false c.loop-thrust.invariant;
+    }
