@@ -1,0 +1,5 @@
+pub mod Bodies
+pub mod Drills
+pub mod Frames
+pub mod SoFar
+pub mod Telegrams
