@@ -1,13 +1,16 @@
--- What the statuses of a session's ending and of a failed one say, and those of faulty words.
-use Rattle.std.proofs.Common.{◌≡◌, ◌≢◌, ℕ, ◌<◌, ◌≤◌, ◌⊎◌, List, [], ◌∷◌, ◌++◌, length, Option}
-use Rattle.std.proofs.Common.{Some, Bool, true, false}
+-- What the statuses of a session's ending and of a failed one say, and those of faulty words, of
+-- however many streams.
+use Rattle.std.proofs.Common.{◌≡◌, ◌≢◌, ℕ, zero, suc, ◌+◌, ◌<◌, ◌≤◌, ◌⊎◌, List, [], ◌∷◌, ◌++◌}
+use Rattle.std.proofs.Common.{length, Option, Some, Bool, true, false, slice_index_or}
 use Rattle.std.proofs.Common.{Ok, Err, refl, sym, ◌∙◌, ap, subst, inl, inr, arith}
+use Rattle.std.specs.Prelude.{All}
+use Rattle.std.specs.List.{Any}
 use Rattle.std.specs.Option.{IfSome}
 use Rattle.std.proofs.lemmas.List.{append-nil, length-append}
+use Rattle.std.proofs.lemmas.List.Elements.{All-cons}
 use Rattle.dp_io.specs.Shown.{HasRisen, IsEmptied, NoneFailed, Shown}
 use Rattle.dp_io.specs.Streams.{Gave}
 use Rattle.frame.specs.Frames.{items, items_end}
-use Rattle.plant_model.specs.declared.limits.TheConstants.{MOST_STREAM_BYTES}
 use Rattle.plant_model.specs.declared.plant.Parts.{Parts}
 use Rattle.plant_core.specs.declared.call.Entry.{Entry}
 use Rattle.plant_file.specs.declared.fault.PlantFault.{PlantFault}
@@ -18,17 +21,17 @@ use Rattle.dp_words.specs.declared.form.Form.{Form}
 use Rattle.dp_words.specs.declared.status.RunStatus.{RunStatus}
 use Rattle.dp_words.specs.declared.status.RunStatus.TheVariants.{Clear, Usage, Plant, WriteFault}
 use Rattle.dp_words.specs.declared.status.RunStatus.TheVariants.{LossFound, NoMemory, ReadFault}
-use Rattle.dp_words.specs.declared.status.RunStatus.TheVariants.{StreamTooLong}
 use Rattle.dp_sessions.specs.Plants.{HasPlant, WordsSay}
-use Rattle.dp_sessions.specs.Sessions.{EndsSession, GaveItems, GaveTooMany, HasCause, HasHistory}
-use Rattle.dp_sessions.specs.Sessions.{IsComplete, IsUnbegun, MayEnd, Passed, TellFew, TellsItems}
-use Rattle.dp_sessions.specs.Sessions.{WritesBegun, WritesPart, WritesWhole, recorded, status_of}
+use Rattle.dp_sessions.specs.Sessions.{EndsSession, GaveItems, GaveTooMany, GaveTooManyItems}
+use Rattle.dp_sessions.specs.Sessions.{HasCause, HasHistory, IsComplete, IsUnbegun, MayEnd}
+use Rattle.dp_sessions.specs.Sessions.{StandsForStream, Streams, TellFew, TellsItems, Together}
+use Rattle.dp_sessions.specs.Sessions.{WritesBegun, WritesPart, WritesWhole, status_of}
 use Rattle.dp_sessions.specs.Steps.{GaveManyItems}
 use Rattle.dp_sessions.specs.Writing.{IsWriteError}
 use Rattle.dp_sessions.specs.declared.session.Ending.{Ending}
 use Rattle.dp_sessions.specs.declared.session.Ending.TheVariants.{End, Fault, Long, Full, Write}
-use Rattle.dp_sessions.proofs.Faults.{all-one, all-two, any-one, tells-ended, tells-memory}
-use Rattle.dp_sessions.proofs.Faults.{tells-same, tells-write}
+use Rattle.dp_sessions.proofs.Faults.{all-one, any-one, tells-ended, tells-memory, tells-same}
+use Rattle.dp_sessions.proofs.Faults.{tells-write}
 use Rattle.dp_sessions.proofs.Fronts.{items-longer}
 use Rattle.dp_sessions.proofs.Plants.{IsElse, missed-none, plant-found, plant-missed, plant-unasked}
 use Rattle.dp_sessions.proofs.Plants.{unasked-none}
@@ -104,17 +107,43 @@ not-plant Long lost fault e = cc
 not-plant Full lost fault e = cc
 not-plant Write lost fault e = cc
 
+-- what sources show of the gravest ending of their streams, which isn't that of a write fault
+pub record ShowEnding (ending : Ending) (sources : List Shown) : Type 0 where
+  pub emptied : ending ≡ End → All IsEmptied sources
+  pub failed : ending ≡ Fault → Any HasRisen sources
+  pub long : ending ≡ Long → Any GaveTooMany sources
+  pub full : ending ≡ Full → GaveTooManyItems sources
+  pub no_fault : ending ≢ Fault → All NoneFailed sources
+
+-- the source of one stream does
+pub shows-ending : (plant : Parts) (ending : Ending) (source out : Shown) (history : List Entry)
+    → StandsForStream plant source out ending history → (ending ≡ Full → GaveManyItems source)
+    → ShowEnding ending (source ∷ [])
+shows-ending plant ending source out history stands full =
+    let ends : (other : Ending) → ending ≡ other
+    → MayEnd source out stands.bytes history other = λ other e.
+    subst (λ (x : Ending). MayEnd source out stands.bytes history x) e stands.ends in
+    record {
+      emptied = λ e. all-one IsEmptied source (ends End e);
+      failed = λ e. any-one HasRisen source (ends Fault e);
+      long = λ e. any-one GaveTooMany source (stands.bytes, stands.given, ends Long e);
+      full = λ e.
+          let many = full e in (many.0, (many.0, 0, omega arith, many.1, refl), many.2);
+      no_fault = λ other. all-one NoneFailed source (stands.no_fault other);
+    }
+
+-- ---- what was written
+
 -- all was written
-pub history-ended : {S : Type 0} (words : List (List ℕ)) (status : RunStatus) (ending : Ending)
-    (lost : Bool) (plant : Parts) (first : Shown) (source : Passed S) (out : Shown)
+pub history-ended : (words : List (List ℕ)) (status : RunStatus) (ending : Ending) (lost : Bool)
+    (plant : Parts) (first : Shown) (streams : Streams) (out : Shown)
     → WordsSay words first (Ok plant) → status ≡ status_of ending lost → ending ≢ Write
-    → WritesWhole plant ending status (recorded source out) out
-    → HasHistory words status (recorded source out) first out
-history-ended words status ending lost plant first source out says is no_write whole = record {
+    → WritesWhole plant ending status streams out → HasHistory words status streams first out
+history-ended words status ending lost plant first streams out says is no_write whole = record {
   whole = λ other differs e. inl (record {
     plant = plant;
     says = says;
-    writes = subst (λ (x : Ending). WritesWhole plant x status (recorded source out) out)
+    writes = subst (λ (x : Ending). WritesWhole plant x status streams out)
         (status_of-injective ending other lost e.0 (sym is ∙ e.1)) whole;
   });
   part = λ e. absurd (not-write_fault ending lost no_write (sym is ∙ e));
@@ -139,14 +168,12 @@ stopped-plant : (status : RunStatus) (plant : PlantFault) → IsWriteError statu
 stopped-plant status plant error e = elim error [ inl fault ↦ cc | inr memory ↦ cc ]
 
 -- writing was stopped
-pub history-stopped : {S : Type 0} (words : List (List ℕ)) (status : RunStatus) (plant : Parts)
-    (first : Shown) (source : Passed S) (out : Shown) → WordsSay words first (Ok plant)
-    → IsWriteError status
-    → (status ≡ WriteFault → WritesPart plant (recorded source out) out)
-    → (status ≡ NoMemory
-    → (out.after ≡ out.before) ⊎ WritesBegun plant (recorded source out) out)
-    → HasHistory words status (recorded source out) first out
-history-stopped words status plant first source out says error part begun = record {
+pub history-stopped : (words : List (List ℕ)) (status : RunStatus) (plant : Parts) (first : Shown)
+    (streams : Streams) (out : Shown) → WordsSay words first (Ok plant) → IsWriteError status
+    → (status ≡ WriteFault → WritesPart plant streams out)
+    → (status ≡ NoMemory → (out.after ≡ out.before) ⊎ WritesBegun plant streams out)
+    → HasHistory words status streams first out
+history-stopped words status plant first streams out says error part begun = record {
   whole = λ ending differs e. absurd (stopped-whole status ending e.0 differs error e.1);
   part = λ e. record { plant = plant; says = says; writes = part e };
   begun = λ e. elim (begun e) [
@@ -158,10 +185,10 @@ history-stopped words status plant first source out says error part begun = reco
 }
 
 -- there was no plant, and nothing was written
-pub history-no_plant : {S : Type 0} (words : List (List ℕ)) (status : RunStatus) (word : List ℕ)
-    (first : Shown) (source : Passed S) (out : Shown) → IsPlantError word first status
-    → IsUnbegun (recorded source out) out → HasHistory words status (recorded source out) first out
-history-no_plant words ReadFault word first source out failed unbegun = record {
+pub history-no_plant : (words : List (List ℕ)) (status : RunStatus) (word : List ℕ) (first : Shown)
+    (streams : Streams) (out : Shown) → IsPlantError word first status → IsUnbegun streams out
+    → HasHistory words status streams first out
+history-no_plant words ReadFault word first streams out failed unbegun = record {
   whole = λ ending differs e. inr (record {
     is_fault = status_of-injective ending Fault e.0 false (sym e.1);
     failed = failed;
@@ -172,27 +199,26 @@ history-no_plant words ReadFault word first source out failed unbegun = record {
   usage = λ kind e. unbegun;
   plant = λ fault e. unbegun;
 }
-history-no_plant words (Plant fault) word first source out says unbegun = record {
+history-no_plant words (Plant fault) word first streams out says unbegun = record {
   whole = λ ending differs e. absurd (not-plant ending e.0 fault (sym e.1));
   part = λ e. absurd (cc);
   begun = λ e. absurd (cc);
   usage = λ kind e. unbegun;
   plant = λ other e. unbegun;
 }
-history-no_plant words NoMemory word first source out ran unbegun = record {
+history-no_plant words NoMemory word first streams out ran unbegun = record {
   whole = λ ending differs e. absurd (not-no_memory ending e.0 (sym e.1));
   part = λ e. absurd (cc);
   begun = λ e. inl unbegun.unwritten;
   usage = λ kind e. unbegun;
   plant = λ fault e. unbegun;
 }
-history-no_plant words status word first source out none unbegun = absurd none
+history-no_plant words status word first streams out none unbegun = absurd none
 
 -- faulty words, and nothing was written
-pub history-usage : {S : Type 0} (words : List (List ℕ)) (kind : ℕ) (first : Shown)
-    (source : Passed S) (out : Shown) → IsUnbegun (recorded source out) out
-    → HasHistory words (Usage kind) (recorded source out) first out
-history-usage words kind first source out unbegun = record {
+pub history-usage : (words : List (List ℕ)) (kind : ℕ) (first : Shown) (streams : Streams)
+    (out : Shown) → IsUnbegun streams out → HasHistory words (Usage kind) streams first out
+history-usage words kind first streams out unbegun = record {
   whole = λ ending differs e. absurd (not-usage ending e.0 kind (sym e.1));
   part = λ e. absurd (cc);
   begun = λ e. absurd (cc);
@@ -200,7 +226,7 @@ history-usage words kind first source out unbegun = record {
   plant = λ fault e. unbegun;
 }
 
--- ---- a source that told few bytes and items didn't give more
+-- ---- sources that told few bytes and items didn't give more
 
 told-bytes : (source : Shown) (own : ℕ) (bytes : List ℕ) (tells : TellsItems source own)
     → Gave source.before source.after bytes
@@ -235,95 +261,65 @@ gave-few source own count tells items_are =
           omega (arith, all.0, tells.count_is, ap (λ (t : List ℕ). length (items_end t)) same)
     ]
 
-one-short : (source : Shown) → TellFew (source ∷ []) → GaveTooMany source → ⊥
-one-short source few many =
-    let each = few.1 in gave-short source each.0 each.3 many
+none-long : (sources : List Shown) (told k : ℕ) (source : Shown) → Together TellsItems sources told
+    → k < length sources → slice_index_or sources k source ≡ source → GaveTooMany source → ⊥
+none-long [] told k source few within is many = absurd (omega (arith, within))
+none-long (first ∷ rest) told zero source few within is many =
+    gave-short first few.0 few.3 (subst GaveTooMany (sym is) many)
+none-long (first ∷ rest) told (suc k) source few within is many =
+    none-long rest few.1 k source few.4 (omega (arith, within)) is many
 
-one-few : (source : Shown) → TellFew (source ∷ []) → GaveManyItems source → ⊥
-one-few source few many =
-    let each = few.1 in
-    omega (
-      arith,
-      gave-few source each.0 many.0 each.3 many.1,
-      many.2,
-      few.2,
-      each.2,
-      each.4,
-    )
+few-together : (sources : List Shown) (told gave : ℕ) → Together TellsItems sources told
+    → Together GaveItems sources gave → gave ≤ told
+few-together [] told gave few many = omega (arith, few, many)
+few-together (source ∷ sources) told gave few many = omega (
+  arith,
+  gave-few source few.0 many.0 few.3 many.3,
+  few-together sources few.1 many.1 few.4 many.4,
+  few.2,
+  many.2,
+)
+
+few-short : (sources : List Shown) → TellFew sources → Any GaveTooMany sources → ⊥
+few-short sources few any = none-long sources few.0 any.0 any.1 few.1 any.2 any.3 any.4
+
+few-items : (sources : List Shown) → TellFew sources → GaveTooManyItems sources → ⊥
+few-items sources few many =
+    omega (arith, few-together sources few.0 many.0 few.1 many.1, few.2, many.2)
 
 complete-end : (lost : Bool)
     → (status_of End lost ≡ Clear) ⊎ (status_of End lost ≡ LossFound)
 complete-end true = inr refl
 complete-end false = inl refl
 
-complete-by : {S : Type 0} (ending : Ending) (lost : Bool) (plant : Parts) (status : RunStatus)
-    (source : Passed S) (out : Shown) → ending ≢ Write
-    → WritesWhole plant ending status (recorded source out) out
-    → (ending ≡ Full → GaveManyItems source.shown) → TellFew (source.shown ∷ [])
-    → (HasRisen source.shown → ⊥)
+complete-by : (ending : Ending) (lost : Bool) (sources : List Shown) → ending ≢ Write
+    → ShowEnding ending sources → TellFew sources → (Any HasRisen sources → ⊥)
     → (status_of ending lost ≡ Clear) ⊎ (status_of ending lost ≡ LossFound)
-complete-by End lost plant status source out no_write whole full few fine = complete-end lost
-complete-by Fault lost plant status source out no_write whole full few fine =
-    absurd (fine whole.stands.ends)
-complete-by Long lost plant status source out no_write whole full few fine =
-    absurd (one-short source.shown few
-    (whole.stands.bytes, whole.stands.given, whole.stands.ends))
-complete-by Full lost plant status source out no_write whole full few fine =
-    absurd (one-few source.shown few (full refl))
-complete-by Write lost plant status source out no_write whole full few fine =
-    absurd (no_write refl)
+complete-by End lost sources no_write shows few fine = complete-end lost
+complete-by Fault lost sources no_write shows few fine = absurd (fine (shows.failed refl))
+complete-by Long lost sources no_write shows few fine =
+    absurd (few-short sources few (shows.long refl))
+complete-by Full lost sources no_write shows few fine =
+    absurd (few-items sources few (shows.full refl))
+complete-by Write lost sources no_write shows few fine = absurd (no_write refl)
 
 -- a session that ended, ended clear or with a loss found where nothing failed
-pub complete-ended : {S : Type 0} (words : List (List ℕ)) (status : RunStatus) (ending : Ending)
-    (lost : Bool) (plant : Parts) (first : Shown) (source : Passed S) (out : Shown)
-    → status ≡ status_of ending lost → ending ≢ Write
-    → WritesWhole plant ending status (recorded source out) out
-    → (ending ≡ Full → GaveManyItems source.shown)
-    → IsComplete words status (recorded source out) first out
-complete-ended words status ending lost plant first source out is no_write whole full =
+pub complete-ended : (words : List (List ℕ)) (status : RunStatus) (ending : Ending) (lost : Bool)
+    (first : Shown) (streams : Streams) (out : Shown) → status ≡ status_of ending lost
+    → ending ≢ Write → ShowEnding ending streams.shown → IsComplete words status streams first out
+complete-ended words status ending lost first streams out is no_write shows =
     λ there first_fine few sources_fine out_fine.
     inl (subst (λ (s : RunStatus). (s ≡ Clear) ⊎ (s ≡ LossFound)) (sym is)
-    (complete-by ending lost plant status source out no_write whole full few
-    (λ (risen : HasRisen source.shown).
-    sources_fine (any-one HasRisen source.shown risen))))
+    (complete-by ending lost streams.shown no_write shows few sources_fine))
 
 -- one that was stopped had no memory, where nothing failed
-pub complete-stopped : {S : Type 0} (words : List (List ℕ)) (status : RunStatus) (first : Shown)
-    (source : Passed S) (out : Shown) → IsWriteError status
-    → (status ≡ WriteFault → HasRisen out)
-    → IsComplete words status (recorded source out) first out
-complete-stopped words status first source out (inl fault) failed =
+pub complete-stopped : (words : List (List ℕ)) (status : RunStatus) (first : Shown)
+    (streams : Streams) (out : Shown) → IsWriteError status → (status ≡ WriteFault → HasRisen out)
+    → IsComplete words status streams first out
+complete-stopped words status first streams out (inl fault) failed =
     λ there first_fine few sources_fine out_fine. absurd (out_fine (failed fault))
-complete-stopped words status first source out (inr memory) failed =
+complete-stopped words status first streams out (inr memory) failed =
     λ there first_fine few sources_fine out_fine. inr memory
-
-cause-fault : (ending : Ending) (lost : Bool) (source out : Shown) (bytes : List ℕ)
-    (history : List Entry) → status_of ending lost ≡ ReadFault
-    → MayEnd source out bytes history ending → HasRisen source
-cause-fault End true source out bytes history e ends = absurd (cc)
-cause-fault End false source out bytes history e ends = absurd (cc)
-cause-fault Fault lost source out bytes history e ends = ends
-cause-fault Long lost source out bytes history e ends = absurd (cc)
-cause-fault Full lost source out bytes history e ends = absurd (cc)
-cause-fault Write lost source out bytes history e ends = absurd (cc)
-
-cause-long : (ending : Ending) (lost : Bool) (source out : Shown) (bytes : List ℕ)
-    (history : List Entry) → status_of ending lost ≡ StreamTooLong
-    → MayEnd source out bytes history ending → MOST_STREAM_BYTES < length bytes
-cause-long End true source out bytes history e ends = absurd (cc)
-cause-long End false source out bytes history e ends = absurd (cc)
-cause-long Fault lost source out bytes history e ends = absurd (cc)
-cause-long Long lost source out bytes history e ends = ends
-cause-long Full lost source out bytes history e ends = absurd (cc)
-cause-long Write lost source out bytes history e ends = absurd (cc)
-
--- the statuses of a stream that was read to its end
-cause-end : (ending : Ending) (lost tells : Bool) (source out : Shown) (bytes : List ℕ)
-    (history : List Entry) → status_of ending lost ≡ status_of End tells
-    → MayEnd source out bytes history ending → IsEmptied source
-cause-end ending lost tells source out bytes history e ends =
-    subst (λ (x : Ending). MayEnd source out bytes history x)
-    (status_of-injective ending End lost tells e) ends
 
 -- ---- when the statuses come
 
@@ -353,48 +349,31 @@ tells-stopped status sources out (inr memory) failed =
     subst (λ (s : RunStatus). TellsFaults s sources out) (sym memory) (tells-memory sources out)
 
 -- when the status of an ending comes
-pub cause-ended : {S : Type 0} (words : List (List ℕ)) (form : Form) (status : RunStatus)
-    (ending : Ending) (lost : Bool) (plant : Parts) (first : Shown) (source : Passed S)
-    (out : Shown) → form_of words ≡ Ok form → WordsSay words first (Ok plant)
-    → status ≡ status_of ending lost → ending ≢ Write
-    → WritesWhole plant ending status (recorded source out) out
-    → (ending ≡ Full → GaveManyItems source.shown)
-    → TellsFaults status (first ∷ source.shown ∷ []) out
-    → HasCause words status (recorded source out) first out
-cause-ended words form status ending lost plant first source out is_form says is no_write whole
-    full faults =
-    let stands = whole.stands in
-    record {
+pub cause-ended : (words : List (List ℕ)) (form : Form) (status : RunStatus) (ending : Ending)
+    (lost : Bool) (plant : Parts) (first : Shown) (streams : Streams) (out : Shown)
+    → form_of words ≡ Ok form → WordsSay words first (Ok plant) → status ≡ status_of ending lost
+    → ending ≢ Write → ShowEnding ending streams.shown
+    → TellsFaults status (first ∷ streams.shown) out → HasCause words status streams first out
+cause-ended words form status ending lost plant first streams out is_form says is no_write shows
+    faults = record {
       plant = plant-found words form status plant first is_form says
           (ended-else ending lost status is);
-      read_fault = λ e. inr (any-one HasRisen source.shown
-          (cause-fault ending lost source.shown out stands.bytes whole.history (sym is ∙ e)
-          stands.ends));
+      read_fault = λ e.
+          inr (shows.failed (status_of-injective ending Fault lost false (sym is ∙ e)));
       write_fault = λ e. absurd (not-write_fault ending lost no_write (sym is ∙ e));
-      too_long = λ e. any-one GaveTooMany source.shown (
-        stands.bytes,
-        stands.given,
-        cause-long ending lost source.shown out stands.bytes whole.history (sym is ∙ e)
-            stands.ends,
-      );
-      journal_full = λ e.
-          let many = full (status_of-injective ending Full lost false (sym is ∙ e)) in
-          (many.0, (many.0, 0, omega arith, many.1, refl), many.2);
-      clear = λ e. all-one IsEmptied source.shown
-          (cause-end ending lost false source.shown out stands.bytes whole.history (sym is ∙ e)
-          stands.ends);
-      loss_found = λ e. all-one IsEmptied source.shown
-          (cause-end ending lost true source.shown out stands.bytes whole.history (sym is ∙ e)
-          stands.ends);
+      too_long = λ e. shows.long (status_of-injective ending Long lost false (sym is ∙ e));
+      journal_full = λ e. shows.full (status_of-injective ending Full lost false (sym is ∙ e));
+      clear = λ e. shows.emptied (status_of-injective ending End lost false (sym is ∙ e));
+      loss_found = λ e. shows.emptied (status_of-injective ending End lost true (sym is ∙ e));
       faults = faults;
     }
 
 -- when a session was stopped in writing
-pub cause-stopped : {S : Type 0} (words : List (List ℕ)) (form : Form) (status : RunStatus)
-    (plant : Parts) (first : Shown) (source : Passed S) (out : Shown) → form_of words ≡ Ok form
+pub cause-stopped : (words : List (List ℕ)) (form : Form) (status : RunStatus) (plant : Parts)
+    (first : Shown) (streams : Streams) (out : Shown) → form_of words ≡ Ok form
     → WordsSay words first (Ok plant) → IsWriteError status → (status ≡ WriteFault → HasRisen out)
-    → HasCause words status (recorded source out) first out
-cause-stopped words form status plant first source out is_form says error failed = record {
+    → HasCause words status streams first out
+cause-stopped words form status plant first streams out is_form says error failed = record {
   plant = plant-found words form status plant first is_form says (stopped-else status error);
   read_fault = λ e. absurd (stopped-whole status Fault false (λ f. cc) error e);
   write_fault = failed;
@@ -402,16 +381,15 @@ cause-stopped words form status plant first source out is_form says error failed
   journal_full = λ e. absurd (stopped-whole status Full false (λ f. cc) error e);
   clear = λ e. absurd (stopped-whole status End false (λ f. cc) error e);
   loss_found = λ e. absurd (stopped-whole status End true (λ f. cc) error e);
-  faults = tells-stopped status (first ∷ source.shown ∷ []) out error failed;
+  faults = tells-stopped status (first ∷ streams.shown) out error failed;
 }
 
 -- when there is no plant
-pub cause-no_plant : {S : Type 0} (words : List (List ℕ)) (form : Form) (status : RunStatus)
-    (word : List ℕ) (first : Shown) (source : Passed S) (out : Shown) → form_of words ≡ Ok form
+pub cause-no_plant : (words : List (List ℕ)) (form : Form) (status : RunStatus) (word : List ℕ)
+    (first : Shown) (streams : Streams) (out : Shown) → form_of words ≡ Ok form
     → HasPlant words word → IsPlantError word first status
-    → TellsFaults status (first ∷ source.shown ∷ []) out
-    → HasCause words status (recorded source out) first out
-cause-no_plant words form status word first source out is_form named error faults = record {
+    → TellsFaults status (first ∷ streams.shown) out → HasCause words status streams first out
+cause-no_plant words form status word first streams out is_form named error faults = record {
   plant = plant-missed words form status word first is_form named error;
   read_fault = λ e. inl (subst (IsPlantError word first) e error);
   write_fault = λ e. absurd (subst (IsPlantError word first) e error);
@@ -423,11 +401,11 @@ cause-no_plant words form status word first source out is_form named error fault
 }
 
 -- when the words are faulty
-pub cause-usage : {S : Type 0} (words : List (List ℕ)) (kind : ℕ) (first : Shown)
-    (source : Passed S) (out : Shown) → form_of words ≡ Err kind
-    → TellsFaults (Usage kind) (first ∷ source.shown ∷ []) out
-    → HasCause words (Usage kind) (recorded source out) first out
-cause-usage words kind first source out is faults = record {
+pub cause-usage : (words : List (List ℕ)) (kind : ℕ) (first : Shown) (streams : Streams)
+    (out : Shown) → form_of words ≡ Err kind
+    → TellsFaults (Usage kind) (first ∷ streams.shown) out
+    → HasCause words (Usage kind) streams first out
+cause-usage words kind first streams out is faults = record {
   plant = plant-unasked words kind first is;
   read_fault = λ e. absurd (cc);
   write_fault = λ e. absurd (cc);
@@ -441,75 +419,69 @@ cause-usage words kind first source out is faults = record {
 -- ---- a session of faulty words, and one without a plant
 
 -- faulty words name no plant, and nothing was read or written
-pub session-usage : {S : Type 0} (words : List (List ℕ)) (kind : ℕ) (first : Shown)
-    (source : Passed S) (out : Shown) → form_of words ≡ Err kind
-    → IsUnbegun (recorded source out) out → NoneFailed first → NoneFailed source.shown
-    → NoneFailed out → EndsSession words (Usage kind) (recorded source out) first out
-session-usage words kind first source out is unbegun one two three = record {
-  history = history-usage words kind first source out unbegun;
-  causes = cause-usage words kind first source out is
-      (tells-same (Usage kind) (first ∷ source.shown ∷ []) out three
-      (all-two NoneFailed first source.shown one two));
+pub session-usage : (words : List (List ℕ)) (kind : ℕ) (first : Shown) (streams : Streams)
+    (out : Shown) → form_of words ≡ Err kind → IsUnbegun streams out → NoneFailed first
+    → All NoneFailed streams.shown → NoneFailed out
+    → EndsSession words (Usage kind) streams first out
+session-usage words kind first streams out is unbegun plant sources written = record {
+  history = history-usage words kind first streams out unbegun;
+  causes = cause-usage words kind first streams out is
+      (tells-same (Usage kind) (first ∷ streams.shown) out written
+      (All-cons NoneFailed first streams.shown plant sources));
   complete = λ there first_fine few sources_fine out_fine.
       absurd (unasked-none words kind first is there);
 }
 
 -- there is a plant, unless memory ran out
-pub session-no_plant : {S : Type 0} (words : List (List ℕ)) (status : RunStatus) (word : List ℕ)
-    (first : Shown) (source : Passed S) (out : Shown) → HasPlant words word
-    → IsPlantError word first status → IsUnbegun (recorded source out) out
-    → TellsFaults status (first ∷ source.shown ∷ []) out
-    → EndsSession words status (recorded source out) first out
-session-no_plant words status word first source out named error unbegun faults = record {
-  history = history-no_plant words status word first source out error unbegun;
-  causes = cause-no_plant words named.0 status word first source out named.1 named error faults;
+pub session-no_plant : (words : List (List ℕ)) (status : RunStatus) (word : List ℕ) (first : Shown)
+    (streams : Streams) (out : Shown) → HasPlant words word → IsPlantError word first status
+    → IsUnbegun streams out → TellsFaults status (first ∷ streams.shown) out
+    → EndsSession words status streams first out
+session-no_plant words status word first streams out named error unbegun faults = record {
+  history = history-no_plant words status word first streams out error unbegun;
+  causes = cause-no_plant words named.0 status word first streams out named.1 named error faults;
   complete = λ there first_fine few sources_fine out_fine.
       inr (missed-none words status word first named error there first_fine);
 }
 
 -- ---- one that was begun
 
-pub session-ended : {S : Type 0} (words : List (List ℕ)) (word : List ℕ) (status : RunStatus)
-    (ending : Ending) (lost : Bool) (plant : Parts) (first : Shown) (source : Passed S)
-    (out : Shown) → HasPlant words word → PlantSays word first (Ok plant)
-    → status ≡ status_of ending lost → ending ≢ Write
-    → WritesWhole plant ending (status_of ending lost) (recorded source out) out
-    → (ending ≡ Full → GaveManyItems source.shown) → NoneFailed first → NoneFailed out
-    → EndsSession words status (recorded source out) first out
-session-ended words word status ending lost plant first source out named says is no_write whole
-    full one out_same =
+pub session-ended : (words : List (List ℕ)) (word : List ℕ) (status : RunStatus) (ending : Ending)
+    (lost : Bool) (plant : Parts) (first : Shown) (streams : Streams) (out : Shown)
+    → HasPlant words word → PlantSays word first (Ok plant) → status ≡ status_of ending lost
+    → ending ≢ Write → WritesWhole plant ending (status_of ending lost) streams out
+    → ShowEnding ending streams.shown → NoneFailed first → NoneFailed out
+    → EndsSession words status streams first out
+session-ended words word status ending lost plant first streams out named says is no_write whole
+    shows one written =
     let words_say : WordsSay words first (Ok plant) =
     record { word = word; named = named; says = says } in
-    let all : WritesWhole plant ending status (recorded source out) out =
-    subst (λ (s : RunStatus). WritesWhole plant ending s (recorded source out) out) (sym is)
-    whole in
-    let faults : TellsFaults status (first ∷ source.shown ∷ []) out =
-    subst (λ (s : RunStatus). TellsFaults s (first ∷ source.shown ∷ []) out) (sym is)
-    (tells-ended ending lost first source.shown out no_write one out_same
-    whole.stands.no_fault) in
+    let all : WritesWhole plant ending status streams out =
+    subst (λ (s : RunStatus). WritesWhole plant ending s streams out) (sym is) whole in
+    let faults : TellsFaults status (first ∷ streams.shown) out =
+    subst (λ (s : RunStatus). TellsFaults s (first ∷ streams.shown) out) (sym is)
+    (tells-ended ending lost first streams.shown out no_write one written shows.no_fault) in
     record {
-      history = history-ended words status ending lost plant first source out words_say is
+      history = history-ended words status ending lost plant first streams out words_say is
           no_write all;
-      causes = cause-ended words named.0 status ending lost plant first source out named.1
-          words_say is no_write all full faults;
-      complete = complete-ended words status ending lost plant first source out is no_write all
-          full;
+      causes = cause-ended words named.0 status ending lost plant first streams out named.1
+          words_say is no_write shows faults;
+      complete = complete-ended words status ending lost first streams out is no_write shows;
     }
 
-pub session-stopped : {S : Type 0} (words : List (List ℕ)) (word : List ℕ) (status : RunStatus)
-    (plant : Parts) (first : Shown) (source : Passed S) (out : Shown) → HasPlant words word
+pub session-stopped : (words : List (List ℕ)) (word : List ℕ) (status : RunStatus) (plant : Parts)
+    (first : Shown) (streams : Streams) (out : Shown) → HasPlant words word
     → PlantSays word first (Ok plant) → IsWriteError status
-    → (status ≡ WriteFault → WritesPart plant (recorded source out) out)
-    → (status ≡ NoMemory
-    → (out.after ≡ out.before) ⊎ WritesBegun plant (recorded source out) out)
+    → (status ≡ WriteFault → WritesPart plant streams out)
+    → (status ≡ NoMemory → (out.after ≡ out.before) ⊎ WritesBegun plant streams out)
     → (status ≡ WriteFault → HasRisen out)
-    → EndsSession words status (recorded source out) first out
-session-stopped words word status plant first source out named says error part begun failed =
+    → EndsSession words status streams first out
+session-stopped words word status plant first streams out named says error part begun failed =
     let words_say : WordsSay words first (Ok plant) =
     record { word = word; named = named; says = says } in
     record {
-      history = history-stopped words status plant first source out words_say error part begun;
-      causes = cause-stopped words named.0 status plant first source out named.1 words_say error
+      history = history-stopped words status plant first streams out words_say error part begun;
+      causes = cause-stopped words named.0 status plant first streams out named.1 words_say error
           failed;
-      complete = complete-stopped words status first source out error failed;
+      complete = complete-stopped words status first streams out error failed;
     }

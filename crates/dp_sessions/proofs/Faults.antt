@@ -1,11 +1,10 @@
 -- That no fault was passed over.
-use Rattle.std.proofs.Common.{◌≡◌, ◌≢◌, ℕ, ◌<◌, ◌⊎◌, List, [], ◌∷◌, length, Bool, true, false, zero}
+use Rattle.std.proofs.Common.{◌≡◌, ◌≢◌, ℕ, ◌<◌, List, [], ◌∷◌, length, Bool, zero}
 use Rattle.std.proofs.Common.{suc, Err, Result, refl, sym, subst, inl, inr, arith, slice_index_or}
 use Rattle.std.specs.Prelude.{All}
 use Rattle.std.specs.List.{Any}
-use Rattle.std.proofs.lemmas.List.Elements.{All-cons, All-head, All-nil}
+use Rattle.std.proofs.lemmas.List.Elements.{All-cons, All-nil}
 use Rattle.plant_model.specs.declared.plant.Parts.{Parts}
-use Rattle.plant_file.specs.declared.fault.PlantFault.{PlantFault}
 use Rattle.dp_io.specs.Shown.{HasRisen, NoneFailed, Shown}
 use Rattle.dp_words.specs.Faults.{HasGreaterCount, TellsFaults}
 use Rattle.dp_words.specs.PlantSource.{IsPlantError}
@@ -81,21 +80,22 @@ tells-memory sources out = record {
 }
 
 -- a session ended
-pub tells-ended : (ending : Ending) (lost : Bool) (first source out : Shown) → ending ≢ Write
-    → NoneFailed first → NoneFailed out → (ending ≢ Fault → NoneFailed source)
-    → TellsFaults (status_of ending lost) (first ∷ source ∷ []) out
-tells-ended End lost first source out no_write plant written read =
-    tells-same (status_of End lost) (first ∷ source ∷ []) out written
-    (all-two NoneFailed first source plant (read (λ e. cc)))
-tells-ended Fault lost first source out no_write plant written read =
-    tells-read (first ∷ source ∷ []) out written
-tells-ended Long lost first source out no_write plant written read =
-    tells-same (status_of Long lost) (first ∷ source ∷ []) out written
-    (all-two NoneFailed first source plant (read (λ e. cc)))
-tells-ended Full lost first source out no_write plant written read =
-    tells-same (status_of Full lost) (first ∷ source ∷ []) out written
-    (all-two NoneFailed first source plant (read (λ e. cc)))
-tells-ended Write lost first source out no_write plant written read = absurd (no_write refl)
+pub tells-ended : (ending : Ending) (lost : Bool) (first : Shown) (sources : List Shown)
+    (out : Shown) → ending ≢ Write → NoneFailed first → NoneFailed out
+    → (ending ≢ Fault → All NoneFailed sources)
+    → TellsFaults (status_of ending lost) (first ∷ sources) out
+tells-ended End lost first sources out no_write plant written read =
+    tells-same (status_of End lost) (first ∷ sources) out written
+    (All-cons NoneFailed first sources plant (read (λ e. cc)))
+tells-ended Fault lost first sources out no_write plant written read =
+    tells-read (first ∷ sources) out written
+tells-ended Long lost first sources out no_write plant written read =
+    tells-same (status_of Long lost) (first ∷ sources) out written
+    (All-cons NoneFailed first sources plant (read (λ e. cc)))
+tells-ended Full lost first sources out no_write plant written read =
+    tells-same (status_of Full lost) (first ∷ sources) out written
+    (All-cons NoneFailed first sources plant (read (λ e. cc)))
+tells-ended Write lost first sources out no_write plant written read = absurd (no_write refl)
 
 -- there is no plant, and the other sources and the output are as they were
 pub tells-no_plant : (result : Result Parts RunStatus) (status : RunStatus) (word : List ℕ)

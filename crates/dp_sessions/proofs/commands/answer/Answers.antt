@@ -1,16 +1,17 @@
 -- What the words ask for is what their form says.
 use Rattle.std.proofs.Common.{◌≡◌, length, map, string_bytes, subst, sym, ap, Ok, ◌∙◌, true, false}
 use Rattle.std.proofs.Math.Path.{refl}
-use Rattle.dp_io.specs.Shown.{writing}
+use Rattle.dp_io.specs.Shown.{NoneFailed, writing}
 use Rattle.dp_words.specs.Words.{NamesBelow}
 use Rattle.dp_words.specs.declared.form.Form.{Form}
 use Rattle.dp_words.specs.declared.form.Form.TheVariants.{Check, Replay}
 use Rattle.dp_words.specs.declared.status.RunStatus.TheVariants.{Usage}
 use Rattle.dp_sessions.specs.Checks.{AsksCheck, names_check}
-use Rattle.dp_sessions.specs.Sessions.{passed}
+use Rattle.dp_sessions.specs.Sessions.{passed, recorded}
 use Rattle.dp_sessions.proofs.Checked.{ends-usage, no-check, no-replay, no-vote, ran-check, ran-either}
 use Rattle.dp_sessions.proofs.Checked.{ran-replay}
 use Rattle.dp_sessions.proofs.Endings.{session-usage}
+use Rattle.dp_sessions.proofs.Faults.{all-one}
 use Rattle.dp_sessions.proofs.Plants.{named-at, word-at}
 use Rattle.dp_sessions.proofs.commands.answer.Goals as goal
 
@@ -88,8 +89,8 @@ returns-in-Err-clause-ends g c =
     let out = writing g.O.Sink c.args.out.now c.args.out.now in
     ran-either (names_check words) words (Usage kind) first second out
     (ends-usage words kind first.shown out is refl refl refl) refl
-    (session-usage words kind first.shown second out is
-    (record { unwritten = refl; unread = refl }) refl refl refl)
+    (session-usage words kind first.shown (recorded second out) out is
+    (record { unwritten = refl; unread = refl }) refl (all-one NoneFailed second.shown refl) refl)
 
 pub unreachable-requires : goal.unreachable-requires
 unreachable-requires g c =

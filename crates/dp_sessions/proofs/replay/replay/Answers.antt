@@ -3,8 +3,9 @@ use Rattle.std.proofs.Common.{◌≡◌, [], ◌∷◌, ap, Err}
 use Rattle.std.proofs.Math.Path.{refl}
 use Rattle.dp_io.specs.Shown.{NoneFailed, reading, writing}
 use Rattle.dp_words.specs.declared.status.RunStatus.TheVariants.{NoMemory, WriteFault}
-use Rattle.dp_sessions.specs.Sessions.{passed}
+use Rattle.dp_sessions.specs.Sessions.{passed, recorded}
 use Rattle.dp_sessions.proofs.Endings.{session-ended, session-no_plant, session-stopped}
+use Rattle.dp_sessions.proofs.Endings.{shows-ending}
 use Rattle.dp_sessions.proofs.Faults.{all-one, tells-no_plant}
 use Rattle.dp_sessions.proofs.replay.replay.Goals as goal
 
@@ -18,7 +19,7 @@ returns-in-Err-clause-session g c = λ words named.
     let word = c.args.word.now in
     let status = c.in-Err.status in
     let error = c.in-Err.ensures.finds.error in
-    session-no_plant words status word first source out named error
+    session-no_plant words status word first (recorded source out) out named error
     (record { unwritten = refl; unread = refl })
     (tells-no_plant c.plant_from.result status word first (source.shown ∷ []) out error c.in-Err.is
     c.plant_from.ensures.no_fault refl (all-one NoneFailed source.shown refl))
@@ -32,9 +33,12 @@ returns-in-Ok-session-clause-session g c = λ words named.
     let out = writing g.O.Sink c.args.out.now c.session.new.out in
     let ended = c.in-Ok-session.ended in
     let ends = c.in-Ok-session.ensures in
+    let stands = ends.ended.stands in
     session-ended words c.args.word.now c.status.result ended.ending ended.is_lost c.in-Ok.plant
-    first source out named c.in-Ok.ensures.finds.found c.status.ensures ends.whole ends.ended
-    ends.full (c.plant_from.ensures.no_fault (λ e. cc (c.in-Ok.is, e)) (λ e. cc (c.in-Ok.is, e)))
+    first (recorded source out) out named c.in-Ok.ensures.finds.found c.status.ensures ends.whole
+    ends.ended
+    (shows-ending c.in-Ok.plant ended.ending source.shown out ends.ended.history stands ends.full)
+    (c.plant_from.ensures.no_fault (λ e. cc (c.in-Ok.is, e)) (λ e. cc (c.in-Ok.is, e)))
     ends.writing.no_fault
 
 pub returns-in-Err-session-clause-session : goal.returns-in-Err-session-clause-session
@@ -46,7 +50,7 @@ returns-in-Err-session-clause-session g c = λ words named.
     let out = writing g.O.Sink c.args.out.now c.session.new.out in
     let status = c.in-Err-session.status in
     let stopped = c.in-Err-session.ensures in
-    session-stopped words c.args.word.now status c.in-Ok.plant first source out named
+    session-stopped words c.args.word.now status c.in-Ok.plant first (recorded source out) out named
     c.in-Ok.ensures.finds.found stopped.writing.errors
     (λ (fault : status ≡ WriteFault). stopped.cut (ap Err fault))
     (λ (memory : status ≡ NoMemory). stopped.begun (ap Err memory))

@@ -1,10 +1,11 @@
 -- The words have no form, ask for a vote, or name a plant.
 use Rattle.std.proofs.Common.{length, map, string_bytes, sym, ap}
 use Rattle.std.proofs.Math.Path.{refl}
-use Rattle.dp_io.specs.Shown.{reading, writing}
+use Rattle.dp_io.specs.Shown.{NoneFailed, reading, writing}
 use Rattle.dp_words.specs.declared.status.RunStatus.TheVariants.{Usage}
-use Rattle.dp_sessions.specs.Sessions.{passed}
+use Rattle.dp_sessions.specs.Sessions.{passed, recorded}
 use Rattle.dp_sessions.proofs.Endings.{session-usage}
+use Rattle.dp_sessions.proofs.Faults.{all-one}
 use Rattle.dp_sessions.proofs.Plants.{named-at}
 use Rattle.dp_sessions.proofs.Votes.{asks-none, asks-vote}
 use Rattle.dp_sessions.proofs.replay.replay_words.Goals as goal
@@ -53,8 +54,8 @@ returns-in-Err-clause-session g c = λ none.
     let telegrams = c.args.telegrams.now in
     let source = passed g.B.Source telegrams telegrams in
     let out = writing g.O.Sink c.args.out.now c.args.out.now in
-    session-usage words c.in-Err.kind first source out (sym c.in-Err.ensures.form)
-    (record { unwritten = refl; unread = refl }) refl refl refl
+    session-usage words c.in-Err.kind first (recorded source out) out (sym c.in-Err.ensures.form)
+    (record { unwritten = refl; unread = refl }) refl (all-one NoneFailed source.shown refl) refl
 
 pub returns-in-Err-clause-refused : goal.returns-in-Err-clause-refused
 returns-in-Err-clause-refused g c = λ report asked. absurd (cc (asked.1, c.in-Err.ensures.form))
