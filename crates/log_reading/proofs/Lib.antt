@@ -1,0 +1,12 @@
+pub mod CallTexts
+pub mod Cuts
+pub mod EntryLines
+pub mod FieldTexts
+pub mod FieldsLeft
+pub mod Inverses
+pub mod Items
+pub mod NumberFields
+pub mod OutcomeFields
+pub mod PlainLines
+pub mod ReplyFields
+pub mod TelegramBodies

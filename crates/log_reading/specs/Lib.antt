@@ -1,0 +1,5 @@
+pub mod Calls
+pub mod Fields
+pub mod Lines
+pub mod Outcomes
+pub mod Replies
