@@ -65,9 +65,10 @@ worker_by_sign : (bs : List ℕ) (z : ℤ) (caller : ℕ) → nat_abs z + 2 ≡ 
     → IsCallerTaken (worker_letter ∷ bs) caller
 worker_by_sign bs (pos m) caller is taken =
     let some : 1 ≤ m = omega (arith, ints, taken.1.low_end) in
-    subst (IsCallerTaken (worker_letter ∷ bs)) is
-    (ap (λ (ds : List ℕ). worker_letter ∷ ds) taken.0 ∙ sym (worker_text m some),
-    omega (arith, ints, taken.1.high_end))
+    subst (IsCallerTaken (worker_letter ∷ bs)) is (
+      ap (λ (ds : List ℕ). worker_letter ∷ ds) taken.0 ∙ sym (worker_text m some),
+      omega (arith, ints, taken.1.high_end),
+    )
 worker_by_sign bs (negsuc m) caller is taken = absurd (omega (arith, ints, taken.1.low_end))
 
 worker_by_letter : (b : ℕ) (bs : List ℕ) (caller : ℕ) (letter : Bool) → (b == worker_letter) ≡ letter

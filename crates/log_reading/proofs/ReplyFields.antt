@@ -169,12 +169,15 @@ cells_with_takes latest parts cells word is =
     some_cell MOST_GROUPS parts a.0 a.1 in
     subst (λ (c : Cells).
     (parts ≡ cell_fields c.list.items) × (c.latest ≡ latest) × FitsCells c)
-    (same_Some (record { latest = latest; list = record { items = a.0 } }) cells a.2)
-    (items.0 ∙ cells-spelled a.0, refl, record {
-      latest = word;
-      few = items.1.0;
-      each = All-from_recursion FitsCell a.0 items.1.1;
-    })
+    (same_Some (record { latest = latest; list = record { items = a.0 } }) cells a.2) (
+      items.0 ∙ cells-spelled a.0,
+      refl,
+      record {
+        latest = word;
+        few = items.1.0;
+        each = All-from_recursion FitsCell a.0 items.1.1;
+      },
+    )
 
 cells_spells : IsReplySpelled (record { kind = codes "CELLS"; read = cells_of })
 cells_spells rest reply is =

@@ -12,7 +12,7 @@ returns-then-top-lt0 c =
     let top = c.args.top in
     let bottom = c.args.bottom in
     elim c.then-top-lt0.branch [
-      then-top-lt0-via-then-top-lt0 w ↦
+      | then-top-lt0-via-then-top-lt0 w ↦
           no_top top bottom (passed_below (to_z-of_z w64 top c.ranges.top) refl w.if-top-lt0.true)
       | then-top-lt0-via-else-top-lt0+then-bottom-lt1 w ↦
           no_bottom top bottom
