@@ -72,6 +72,41 @@ fn in_two<R: Threads + Wait + Sync>(
     )
 }
 
+fn in_four<R: Threads + Wait + Sync>(
+    rt: &R,
+    turn: &Turn<Tally>,
+    one: Pass<Tally>,
+    two: Pass<Tally>,
+    three: Pass<Tally>,
+    four: Pass<Tally>,
+    count: u32,
+) -> ((Pass<Tally>, Pass<Tally>), (Pass<Tally>, Pass<Tally>))
+    requires one { (one.lock ≡ turn.now) × (one.holds ≡ false) }
+    requires two { (two.lock ≡ turn.now) × (two.holds ≡ false) }
+    requires three { (three.lock ≡ turn.now) × (three.holds ≡ false) }
+    requires four { (four.lock ≡ turn.now) × (four.holds ≡ false) }
+    ensures one { (result.0.0.lock ≡ turn.now) × (result.0.0.holds ≡ false) }
+    ensures two { (result.0.1.lock ≡ turn.now) × (result.0.1.holds ≡ false) }
+    ensures three { (result.1.0.lock ≡ turn.now) × (result.1.0.holds ≡ false) }
+    ensures four { (result.1.1.lock ≡ turn.now) × (result.1.1.holds ≡ false) }
+{
+    join(
+        rt,
+        move || -> (Pass<Tally>, Pass<Tally>)
+            requires one { (one.lock ≡ turn.now) × (one.holds ≡ false) }
+            requires two { (two.lock ≡ turn.now) × (two.holds ≡ false) }
+            ensures one { (result.0.lock ≡ turn.entry.now) × (result.0.holds ≡ false) }
+            ensures two { (result.1.lock ≡ turn.entry.now) × (result.1.holds ≡ false) }
+        { in_two(rt, turn, one, two, count) },
+        move || -> (Pass<Tally>, Pass<Tally>)
+            requires one { (three.lock ≡ turn.now) × (three.holds ≡ false) }
+            requires two { (four.lock ≡ turn.now) × (four.holds ≡ false) }
+            ensures one { (result.0.lock ≡ turn.entry.now) × (result.0.holds ≡ false) }
+            ensures two { (result.1.lock ≡ turn.entry.now) × (result.1.holds ≡ false) }
+        { in_two(rt, turn, three, four, count) },
+    )
+}
+
 fn started(alloc: Global) -> Option<(Turn<Tally>, Pass<Tally>)>
     ensures { IfSome result (λ r. r.1 ≡ root_of r.0 tt) }
 {
@@ -100,22 +135,7 @@ pub fn four_threads<R: Threads + Wait + Sync>(rt: &R, alloc: Global, count: u32)
     let two = turn.split(&mut root).ok()?;
     let three = turn.split(&mut root).ok()?;
     let four = turn.split(&mut root).ok()?;
-    let shared = &turn;
-    let ((one, two), (three, four)) = join(
-        rt,
-        move || -> (Pass<Tally>, Pass<Tally>)
-            requires one { (one.lock ≡ shared.now) × (one.holds ≡ false) }
-            requires two { (two.lock ≡ shared.now) × (two.holds ≡ false) }
-            ensures one { (result.0.lock ≡ shared.entry.now) × (result.0.holds ≡ false) }
-            ensures two { (result.1.lock ≡ shared.entry.now) × (result.1.holds ≡ false) }
-        { in_two(rt, shared, one, two, count) },
-        move || -> (Pass<Tally>, Pass<Tally>)
-            requires one { (three.lock ≡ shared.now) × (three.holds ≡ false) }
-            requires two { (four.lock ≡ shared.now) × (four.holds ≡ false) }
-            ensures one { (result.0.lock ≡ shared.entry.now) × (result.0.holds ≡ false) }
-            ensures two { (result.1.lock ≡ shared.entry.now) × (result.1.holds ≡ false) }
-        { in_two(rt, shared, three, four, count) },
-    );
+    let ((one, two), (three, four)) = in_four(rt, &turn, one, two, three, four, count);
     turn.join(&mut root, one);
     turn.join(&mut root, two);
     turn.join(&mut root, three);
