@@ -1,6 +1,6 @@
 -- The bodies of a drill's telegrams: bytes of bodies, and few.
-use Rattle.std.proofs.Common.{◌≡◌, ◌∙◌, ℕ, ◌+◌, ◌^◌, ◌≤◌, ◌<◌, List, [], ◌∷◌, ◌++◌, length}
-use Rattle.std.proofs.Common.{Bool, true, false, nat_le, suc, ℤ, pos, negsuc, refl, arith, codes, length-append}
+use Rattle.std.proofs.Common.{◌≡◌, ◌∙◌, ℕ, ◌+◌, ◌^◌, ◌≤◌, ◌<◌, List, ◌∷◌, ◌++◌, length}
+use Rattle.std.proofs.Common.{true, nat_le, suc, ℤ, pos, negsuc, refl, arith, codes, length-append}
 use Rattle.std.proofs.lemmas.Bool.Decides.{nat_tests}
 use Rattle.std.proofs.lemmas.Fmt.{length-decimal-le}
 use Rattle.std.proofs.lemmas.List.Folds.{list_all-append}
@@ -10,9 +10,7 @@ use Rattle.std.specs.Prelude.{nat_abs}
 use Rattle.frame.specs.Bodies.{is_body, is_body_byte}
 use Rattle.frame.specs.declared.body.TheConstants.{MOST_BODY_BYTES}
 use Rattle.telegram.specs.Telegrams.{comma, telegram_text}
-use Rattle.telegram.specs.declared.telegram.Telegram.{Telegram}
-use Rattle.telegram.specs.declared.telegram.Telegram.TheVariants.{Position, Wind, Thruster}
-use Rattle.telegram.specs.declared.telegram.Telegram.TheVariants.{Generator, Tie}
+use Rattle.telegram.specs.declared.telegram.Telegram.TheVariants.{Position, Wind}
 use Rattle.telegram.proofs.TextBytes.{plain-decimal, plain-signed_decimal}
 
 -- a part of a body: at most so many bytes, all of them those of bodies

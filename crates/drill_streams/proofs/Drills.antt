@@ -1,6 +1,6 @@
 -- What holds of all telegrams of a drill, by its steps.
-use Rattle.std.proofs.Common.{◌≡◌, ◌∙◌, ℕ, zero, suc, ◌+◌, ◌*◌, ◌/◌, ◌%◌, ◌≤◌, ◌<◌, List, [], ◌∷◌}
-use Rattle.std.proofs.Common.{◌++◌, length, Bool, true, false, cond, ◌==◌, refl, ap, arith}
+use Rattle.std.proofs.Common.{◌≡◌, ℕ, zero, suc, ◌+◌, ◌/◌, ◌%◌, ◌≤◌, List, [], ◌∷◌}
+use Rattle.std.proofs.Common.{length, Bool, true, false, cond, ◌==◌, refl, arith}
 use Rattle.std.proofs.Common.{length-append, Ok}
 use Rattle.std.proofs.lemmas.Bool.Decides.{nat_tests}
 use Rattle.std.proofs.lemmas.List.Elements.{All-append, All-nil, All-push, All-weaker}
@@ -8,10 +8,10 @@ use Rattle.std.specs.List.{All}
 use Rattle.telegram.specs.Telegrams.{telegram, telegram_text}
 use Rattle.telegram.specs.declared.telegram.Telegram.{Telegram}
 use Rattle.telegram.proofs.Exact.{read_again}
-use Rattle.drill_streams.specs.Laws.{AreRead, HasOperators, HasSensors, IsSensed, IsSwitch}
+use Rattle.drill_streams.specs.Laws.{HasOperators, HasSensors, IsSensed, IsSwitch}
 use Rattle.drill_streams.specs.Steps.{number_after_sensor, orders_at, sensor_at}
 use Rattle.drill_streams.specs.Steps.{steps_of_an_order, switch_at}
-use Rattle.drill_streams.specs.Streams.{drill_after, drill_operators, drill_sensors, frames_of}
+use Rattle.drill_streams.specs.Streams.{drill_after, drill_operators, drill_sensors}
 use Rattle.drill_streams.specs.declared.streams.TheConstants.{MOST_DRILL_STEPS}
 use Rattle.drill_streams.proofs.Frames.{IsShort, items_end-frames, length-frames}
 use Rattle.drill_streams.proofs.Telegrams.{IsDrillOrder, IsDrillSensor, orders-at, sensor-at}

@@ -1,8 +1,7 @@
 -- The streams of a drill with one step more.
-use Rattle.std.proofs.Common.{◌≡◌, ◌∙◌, ℕ, suc, ◌+◌, List, [], ◌∷◌, ◌++◌, ap, sym, add-one, subst, arith, ◌≤◌}
+use Rattle.std.proofs.Common.{◌≡◌, ◌∙◌, ℕ, ◌+◌, List, [], ◌∷◌, ◌++◌, ap, sym, add-one, subst, arith, ◌≤◌}
 use Rattle.std.proofs.lemmas.List.{append-nil}
 use Rattle.std.proofs.lemmas.List.Concat.{flat_map-append}
-use Rattle.std.specs.List.{flat_map}
 use Rattle.frame.specs.Frames.{frame_text}
 use Rattle.telegram.specs.Telegrams.{telegram_text}
 use Rattle.telegram.specs.declared.telegram.Telegram.{Telegram}

@@ -1,5 +1,5 @@
 -- The telegrams of a step.
-use Rattle.std.proofs.Common.{◌≡◌, ℕ, ◌+◌, ◌-◌, ◌*◌, ◌^◌, ◌≤◌, ◌<◌, List, [], ◌∷◌}
+use Rattle.std.proofs.Common.{◌≡◌, ℕ, ◌≤◌, ◌<◌, List, [], ◌∷◌}
 use Rattle.std.proofs.Common.{Bool, true, false, cond, ◌==◌, ℤ, refl, arith, lit<, length, codes}
 use Rattle.std.proofs.Common.{nat_le, ◌/◌, ◌%◌}
 use Rattle.frame.specs.Bodies.{is_body}
@@ -17,7 +17,7 @@ use Rattle.telegram.specs.declared.telegram.Telegram.TheVariants.{Position, Wind
 use Rattle.telegram.specs.declared.telegram.Telegram.TheVariants.{Generator, Tie}
 use Rattle.drill_streams.specs.Draws.{drawn, next_number}
 use Rattle.drill_streams.specs.Laws.{IsSensed, IsSwitch}
-use Rattle.drill_streams.specs.Steps.{moment_of, number_after_sensor, offset_of, orders_at}
+use Rattle.drill_streams.specs.Steps.{moment_of, offset_of, orders_at}
 use Rattle.drill_streams.specs.Steps.{sensor_at, sensor_of, steps_of_an_order, switch_at, switch_of}
 use Rattle.drill_streams.specs.declared.streams.TheConstants.{MOST_DRILL_STEPS}
 use Rattle.drill_streams.proofs.Bodies.{IsShortBody, short-position, short-wind}

@@ -2,7 +2,7 @@
 use Rattle.std.specs.Prelude.{◌≡◌, ℕ, ◌*◌, ◌/◌, ◌≤◌, List, length, map, Ok, All}
 use Rattle.frame.specs.Frames.{items_end}
 use Rattle.frame.specs.declared.item.Item.TheVariants.{Body}
-use Rattle.telegram.specs.Telegrams.{IsTelegram, telegram, telegram_text}
+use Rattle.telegram.specs.Telegrams.{telegram, telegram_text}
 use Rattle.telegram.specs.declared.telegram.Telegram.{Telegram}
 use Rattle.telegram.specs.declared.telegram.Telegram.TheVariants.{Position, Wind, Thruster}
 use Rattle.telegram.specs.declared.telegram.Telegram.TheVariants.{Generator, Tie}

@@ -1,5 +1,5 @@
 -- The telegrams of a step of a drill.
-use Rattle.std.specs.Prelude.{ℕ, ◌+◌, ◌-◌, ◌*◌, ◌%◌, ℤ, pos, ◌-ℤ◌, List, [], ◌∷◌, Bool, ◌==◌}
+use Rattle.std.specs.Prelude.{ℕ, ◌-◌, ◌*◌, ◌%◌, ℤ, pos, ◌-ℤ◌, List, [], ◌∷◌, Bool, ◌==◌}
 use Rattle.std.specs.Prelude.{if◌then◌else◌, codes}
 use Rattle.telegram.specs.declared.telegram.Telegram.{Telegram}
 use Rattle.telegram.specs.declared.telegram.Telegram.TheVariants.{Position, Wind, Thruster}
