@@ -1,5 +1,5 @@
 -- Callers and calls are read of their own texts alone.
-use Rattle.std.proofs.Common.{◌≡◌, ◌∙◌, ℕ, ◌+◌, ◌-◌, ◌^◌, ◌<◌, ◌≤◌, List, [], ◌∷◌, ◌++◌, length, Bool}
+use Rattle.std.proofs.Common.{◌≡◌, ◌∙◌, ℕ, ◌+◌, ◌-◌, ◌^◌, ◌<◌, ◌≤◌, List, [], ◌∷◌, length, Bool}
 use Rattle.std.proofs.Common.{true, false, ◌==◌, if◌then◌else◌, cond, Option, Some, None, Result, Ok}
 use Rattle.std.proofs.Common.{Err, ℤ, pos, negsuc, nat_abs, nat_lt, codes, refl, ap, sym, subst, arith}
 use Rattle.std.proofs.lemmas.Bool.Decides.{nat_tests}
@@ -19,7 +19,7 @@ use Rattle.plant_model.specs.Plants.{are_distinct}
 use Rattle.plant_model.specs.declared.parts.Group.{Group}
 use Rattle.plant_model.specs.declared.plant.Parts.{Parts}
 use Rattle.telegram.specs.Numbers.{IsFromTo}
-use Rattle.telegram.specs.Telegrams.{IsTelegram, fields, parts_of, reject_number, telegram}
+use Rattle.telegram.specs.Telegrams.{fields, parts_of, reject_number, telegram}
 use Rattle.telegram.specs.Telegrams.{telegram_text}
 use Rattle.telegram.specs.declared.telegram.Reject.{Reject}
 use Rattle.telegram.specs.declared.telegram.Reject.TheVariants as rejects
@@ -29,17 +29,15 @@ use Rattle.telegram.proofs.Exact.{read_again, text-of_telegram}
 use Rattle.plant_core.specs.Machine.{IsCall}
 use Rattle.plant_core.specs.declared.call.Call.{Call}
 use Rattle.plant_core.specs.declared.call.Call.TheVariants as calls
-use Rattle.plant_core.specs.declared.call.Note.{Note}
 use Rattle.plant_core.specs.declared.call.Note.TheVariants.{Damaged, Rejected, Stray}
 use Rattle.log_text.specs.Fits.{FitsCall, FitsWord}
 use Rattle.log_text.specs.Texts.{call_text, caller_text}
 use Rattle.log_text.proofs.ToldCalls.{call-is_told, call_fields}
-use Rattle.log_text.proofs.ToldFields.{IsTold}
 use Rattle.log_text.proofs.ToldGroups.{AreNamed, name_at, names_of, place-told, place_in}
 use Rattle.log_reading.specs.Calls.{call_forms, call_of, caller_of, damage_of, damaged_of, group_of}
 use Rattle.log_reading.specs.Calls.{or_telegram, reject_of, rejected_of, telegram_of, verdict_of}
 use Rattle.log_reading.specs.Calls.{worker_letter, worker_of}
-use Rattle.log_reading.specs.Fields.{◌>>=◌, Form, at_first, at_only, by_kind, ended, number_in, u32_of}
+use Rattle.log_reading.specs.Fields.{◌>>=◌, at_first, at_only, by_kind, ended, number_in, u32_of}
 use Rattle.log_reading.specs.Outcomes.{outcome_of}
 use Rattle.log_reading.proofs.FieldTexts.{fields_from_told, text_from_fields}
 use Rattle.log_reading.proofs.Inverses.{AllSpell, Fields, Inverts, Reads, Spells, bind_some, closed}

@@ -1,6 +1,6 @@
 -- An entry is read of its own line alone.
-use Rattle.std.proofs.Common.{◌≡◌, ◌∙◌, ℕ, List, [], ◌∷◌, ◌++◌, Bool, true, false, IsTrue}
-use Rattle.std.proofs.Common.{if◌then◌else◌, Option, Some, None, codes, refl, ap, sym, subst}
+use Rattle.std.proofs.Common.{◌≡◌, ◌∙◌, ℕ, List, [], ◌∷◌, ◌++◌, true}
+use Rattle.std.proofs.Common.{Option, Some, None, codes, refl, ap, sym, subst}
 use Rattle.std.proofs.Common.{append_assoc}
 use Rattle.std.proofs.lemmas.List.{append_cancel_right}
 use Rattle.std.proofs.lemmas.Option.{same_Some}
@@ -17,13 +17,13 @@ use Rattle.plant_core.specs.declared.call.Reply.{Reply}
 use Rattle.plant_core.specs.Machine.{is_answer}
 use Rattle.log_text.specs.Fits.{FitsReply}
 use Rattle.log_text.specs.Lines.{line}
-use Rattle.log_text.specs.Texts.{call_text, caller_text, entry_text, reply_text}
+use Rattle.log_text.specs.Texts.{call_text, caller_text, reply_text}
 use Rattle.log_text.proofs.ToldCalls.{call-is_told, call_fields, caller-field}
 use Rattle.log_text.proofs.ToldFields.{is_told_byte, told-field, told-text}
 use Rattle.log_text.proofs.ToldGroups.{AreNamed, names_of}
 use Rattle.log_text.proofs.ToldReplies.{reply-is_told, reply_fields}
 use Rattle.log_reading.specs.Calls.{call_of, caller_of}
-use Rattle.log_reading.specs.Fields.{◌>>=◌, by_kind, cut}
+use Rattle.log_reading.specs.Fields.{by_kind, cut}
 use Rattle.log_reading.specs.Lines.{HasLine, IsLineOf, LinesTellEntries, entry_of, entry_with}
 use Rattle.log_reading.specs.Lines.{space}
 use Rattle.log_reading.specs.Replies.{reply_forms, reply_of}

@@ -6,7 +6,7 @@ use Rattle.std.proofs.lemmas.Slice.Eq.{bytes_eq-Decides}
 use Rattle.std.specs.List.{AllByRecursion, flat_map}
 use Rattle.std.specs.Str.{bytes_eq}
 use Rattle.log_reading.specs.Fields.{◌>>=◌, Form, all_of, at_first, at_only, by_kind, ended}
-use Rattle.log_reading.specs.Fields.{next_field, only_field, read_by}
+use Rattle.log_reading.specs.Fields.{read_by}
 
 abbrev pub Fields : Type 0
 Fields = List (List ℕ)

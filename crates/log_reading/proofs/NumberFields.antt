@@ -1,5 +1,5 @@
 -- Numbers are read of their own spelling alone.
-use Rattle.std.proofs.Common.{◌≡◌, ◌∙◌, ℕ, zero, suc, ◌^◌, ◌<◌, ◌-◌, List, [], ◌∷◌, length, Bool}
+use Rattle.std.proofs.Common.{◌≡◌, ◌∙◌, ℕ, suc, ◌^◌, ◌<◌, ◌-◌, List, [], ◌∷◌, length, Bool}
 use Rattle.std.proofs.Common.{true, false, ◌&&◌, ◌==◌, if◌then◌else◌, Option, Some, None, ℤ, pos}
 use Rattle.std.proofs.Common.{negsuc, neg_ℤ, nat_abs, ◌≤ℤ◌, FitsSigned, refl, ap, sym, subst, arith}
 use Rattle.std.proofs.lemmas.Bool.Decides.{nat_tests}
@@ -16,7 +16,7 @@ use Rattle.std.specs.Str.Parse.{AllDigits, IsNumeral, digits_value, signed_digit
 use Rattle.std.specs.Str.Parse.{without_leading_sign}
 use Rattle.telegram.specs.Numbers.{IsFromTo}
 use Rattle.log_text.specs.Fits.{FitsWord}
-use Rattle.log_text.proofs.ToldFields.{both, both_true}
+use Rattle.log_text.proofs.ToldFields.{both_true}
 use Rattle.log_reading.specs.Fields.{i128_of, i32_of, i64_of, number_in, u32_of, word_of}
 use Rattle.log_reading.proofs.Inverses.{Inverts, bind_some, closed, if_some}
 

@@ -1,6 +1,6 @@
 -- Outcomes, places, demands and allocations are read of their own fields alone.
-use Rattle.std.proofs.Common.{◌≡◌, ◌∙◌, ℕ, zero, suc, ◌≤◌, List, [], ◌∷◌, ◌++◌, length, Bool, true, false, ◌==◌}
-use Rattle.std.proofs.Common.{if◌then◌else◌, Option, Some, None, ℤ, pos, negsuc, ◌≤ℤ◌, ◌<ℤ◌, T, FitsSigned, codes}
+use Rattle.std.proofs.Common.{◌≡◌, ◌∙◌, ℕ, zero, suc, List, [], ◌∷◌, ◌++◌, length, Bool, true, false, ◌==◌}
+use Rattle.std.proofs.Common.{Option, Some, None, ℤ, pos, negsuc, ◌<ℤ◌, T, FitsSigned, codes}
 use Rattle.std.proofs.Common.{refl, ap, ap₂, sym, subst, arith}
 use Rattle.std.proofs.Math.Dec.{T_prop}
 use Rattle.std.proofs.lemmas.Bool.Decides.{nat_tests}
@@ -27,12 +27,12 @@ use Rattle.log_text.specs.Fits.{FitsAllocation, FitsCuts, FitsOutcome, FitsPlace
 use Rattle.log_text.specs.Fits.{FitsThrusts, FitsVector, FitsWord, FitsWrench}
 use Rattle.log_text.proofs.ToldOutcomes.{cut_fields, outcome_fields, thrust_fields, wrench_fields}
 use Rattle.log_text.proofs.ToldReplies.{given_part_fields, place_fields}
-use Rattle.log_reading.specs.Fields.{◌>>=◌, Form, all_of, at_first, at_only, ended, i32_of, i64_of}
+use Rattle.log_reading.specs.Fields.{all_of, at_first, at_only, ended, i32_of, i64_of}
 use Rattle.log_reading.specs.Fields.{i128_of, u32_of, when}
 use Rattle.log_reading.specs.Outcomes.{allocation_of, cut_at, cuts_of, fraction_at, fraction_of}
 use Rattle.log_reading.specs.Outcomes.{holds_of, lost_of, numbered_place, outcome_forms, outcome_of}
 use Rattle.log_reading.specs.Outcomes.{place_forms, place_of, thrust_at, thrusts_of, wrench_at}
-use Rattle.log_reading.proofs.Inverses.{AllSpell, Fields, Inverts, Reads, Spells, all_again, all_takes}
+use Rattle.log_reading.proofs.Inverses.{AllSpell, Fields, Reads, Spells, all_again, all_takes}
 use Rattle.log_reading.proofs.Inverses.{bind_some, closed, closed_front, ended_takes, first_reads}
 use Rattle.log_reading.proofs.Inverses.{if_some, kind_takes, only_takes}
 use Rattle.log_reading.proofs.NumberFields.{i128-inverts, i32-inverts, i64-inverts, u32-inverts}

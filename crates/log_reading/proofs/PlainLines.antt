@@ -1,34 +1,29 @@
 -- The line of an entry has few bytes, all of them those of bodies.
-use Rattle.std.proofs.Common.{◌≡◌, ◌∙◌, ℕ, zero, suc, ℤ, w64, ◌+◌, ◌*◌, ◌-◌, ◌≤◌, List, [], ◌∷◌, ◌++◌, length, Bool, true}
-use Rattle.std.proofs.Common.{false, ◌==◌, if◌then◌else◌, FitsSigned, codes, refl, sym, subst, arith}
-use Rattle.std.proofs.Common.{All, append_assoc}
+use Rattle.std.proofs.Common.{◌≡◌, ℕ, zero, suc, ℤ, w64, ◌*◌, ◌-◌, ◌≤◌, List, [], ◌∷◌, ◌++◌, length, Bool, true}
+use Rattle.std.proofs.Common.{false, ◌==◌, if◌then◌else◌, FitsSigned, codes, refl, arith}
 use Rattle.std.proofs.lemmas.Bool.Decides.{nat_tests}
 use Rattle.std.proofs.lemmas.List.Elements.{recursion_from_All}
 use Rattle.std.proofs.lemmas.Str.{IsUtf8-from_ascii}
 use Rattle.std.proofs.lemmas.Str.Ascii.{IsAscii-from_all}
-use Rattle.std.specs.Fmt.{decimal, signed_decimal}
+use Rattle.std.specs.Fmt.{decimal}
 use Rattle.std.specs.List.{AllByRecursion, flat_map, list_all}
 use Rattle.std.specs.Str.{IsUtf8}
 use Rattle.frame.specs.Bodies.{is_body, is_body_byte}
 use Rattle.frame.specs.Frames.{damage_number}
-use Rattle.plant_model.specs.Names.{is_name}
 use Rattle.plant_model.specs.declared.board.Cell.{Cell}
 use Rattle.plant_model.specs.declared.board.Cell.TheVariants.{Pending, Seen}
-use Rattle.plant_model.specs.declared.board.Cells.{Cells}
 use Rattle.plant_model.specs.declared.parts.Group.{Group}
 use Rattle.plant_model.specs.declared.plant.Parts.{Parts}
 use Rattle.plant_model.specs.declared.thrust.Thrust.{Thrust}
 use Rattle.plant_model.specs.declared.thrust.Thrusts.{Thrusts}
-use Rattle.plant_model.specs.declared.wrench.Wrench.{Wrench}
 use Rattle.telegram.specs.Telegrams.{reject_number, telegram_text}
 use Rattle.wrench_geometry.specs.declared.vector.Vec3.{Vec3}
-use Rattle.certificate.specs.declared.outcome.Cuts.{Cuts}
 use Rattle.certificate.specs.declared.outcome.Outcome.{Outcome}
 use Rattle.certificate.specs.declared.outcome.Outcome.TheVariants.{Holds, Lost}
 use Rattle.certificate.specs.declared.outcome.Place.{Place}
 use Rattle.certificate.specs.declared.outcome.Place.TheVariants as places
 use Rattle.thrust_allocation.specs.declared.allocation.Allocation.{Allocation}
-use Rattle.plant_core.specs.Machine.{IsCall, is_answer}
+use Rattle.plant_core.specs.Machine.{IsCall}
 use Rattle.plant_core.specs.declared.call.Call.{Call}
 use Rattle.plant_core.specs.declared.call.Call.TheVariants as calls
 use Rattle.plant_core.specs.declared.call.Entry.{Entry}
@@ -37,12 +32,11 @@ use Rattle.plant_core.specs.declared.call.Note.TheVariants.{Damaged, Rejected, S
 use Rattle.plant_core.specs.declared.call.Reply.{Reply}
 use Rattle.plant_core.specs.declared.call.Reply.TheVariants as replies
 use Rattle.log_text.specs.Commands.{IsPart}
-use Rattle.log_text.specs.Fits.{FitsAllocation, FitsCall, FitsCell, FitsCells, FitsCuts, FitsOutcome}
+use Rattle.log_text.specs.Fits.{FitsAllocation, FitsCall, FitsCell, FitsOutcome}
 use Rattle.log_text.specs.Fits.{FitsPlace, FitsReply, FitsThrust, FitsThrusts, FitsVector, FitsWord}
-use Rattle.log_text.specs.Fits.{FitsWrench}
-use Rattle.log_text.specs.Outcomes.{cut_text, cuts_text, given_part_text, given_text, outcome_text}
-use Rattle.log_text.specs.Outcomes.{thrust_text, thrusts_text, wrench_text}
-use Rattle.log_text.specs.Texts.{call_text, caller_text, cell_text, cells_text, group_name, note_text}
+use Rattle.log_text.specs.Outcomes.{cut_text, given_part_text, given_text, outcome_text}
+use Rattle.log_text.specs.Outcomes.{thrust_text, thrusts_text}
+use Rattle.log_text.specs.Texts.{call_text, caller_text, cell_text, note_text}
 use Rattle.log_text.specs.Texts.{place_text, reply_text}
 use Rattle.log_text.proofs.CommandBodies.{part-append, part-field, part-i64, part-known, part-name}
 use Rattle.log_text.proofs.CommandBodies.{part-thrust, part-u32, part-wrench}

@@ -1,20 +1,17 @@
 -- Replies are read of their own fields alone.
-use Rattle.std.proofs.Common.{◌≡◌, ◌∙◌, ℕ, List, [], ◌∷◌, ◌++◌, length, Bool, true, false, Option, Some}
-use Rattle.std.proofs.Common.{None, if◌then◌else◌, IsTrue, codes, refl, ap, ap₂, sym, subst, arith}
-use Rattle.std.proofs.lemmas.Bool.Decides.{nat_tests}
+use Rattle.std.proofs.Common.{◌≡◌, ◌∙◌, ℕ, List, [], ◌∷◌, ◌++◌, Bool, true, false, Some}
+use Rattle.std.proofs.Common.{None, if◌then◌else◌, codes, refl, ap, ap₂, sym, subst}
 use Rattle.std.proofs.lemmas.List.Elements.{All-from_recursion, recursion_from_All}
 use Rattle.std.proofs.lemmas.Option.{same_Some}
 use Rattle.std.proofs.lemmas.Slice.Eq.{bytes_eq-Decides}
 use Rattle.std.specs.Fmt.{decimal}
-use Rattle.std.specs.List.{flat_map, list_all}
+use Rattle.std.specs.List.{flat_map}
 use Rattle.std.specs.Str.{bytes_eq}
 use Rattle.plant_model.specs.declared.board.Cell.{Cell}
 use Rattle.plant_model.specs.declared.board.Cell.TheVariants.{Pending, Seen}
 use Rattle.plant_model.specs.declared.board.Cells.{Cells}
 use Rattle.plant_model.specs.declared.limits.TheConstants.{MOST_GROUPS}
-use Rattle.certificate.specs.declared.outcome.Place.{Place}
 use Rattle.telegram.specs.Numbers.{is_digit}
-use Rattle.telegram.specs.Telegrams.{fields}
 use Rattle.plant_core.specs.Machine.{is_answer}
 use Rattle.plant_core.specs.declared.call.Reply.{Reply}
 use Rattle.plant_core.specs.declared.call.Reply.TheVariants as replies
@@ -22,14 +19,14 @@ use Rattle.log_text.specs.Fits.{FitsCell, FitsCells, FitsReply, FitsWord}
 use Rattle.log_text.proofs.ToldNumbers.{digits-decimal}
 use Rattle.log_text.proofs.ToldOutcomes.{wrench_fields}
 use Rattle.log_text.proofs.ToldReplies.{cell_field, cell_fields, cell_words, given_part_fields}
-use Rattle.log_text.proofs.ToldReplies.{place_fields, reply_fields}
-use Rattle.log_reading.specs.Fields.{◌>>=◌, Form, all_of, at_first, at_only, by_kind, cut, ended, u32_of}
+use Rattle.log_text.proofs.ToldReplies.{reply_fields}
+use Rattle.log_reading.specs.Fields.{Form, all_of, at_first, at_only, by_kind, cut, ended, u32_of}
 use Rattle.log_reading.specs.Fields.{word_of}
 use Rattle.log_reading.specs.Outcomes.{allocation_of, place_of, wrench_at}
 use Rattle.log_reading.specs.Replies.{cell_of, cells_of, cells_with, colon, commanded_of, numbered}
-use Rattle.log_reading.specs.Replies.{refused_of, reply_forms, reply_of, seen_of}
+use Rattle.log_reading.specs.Replies.{refused_of, reply_forms, seen_of}
 use Rattle.log_reading.proofs.Cuts.{cut_again, cut_takes}
-use Rattle.log_reading.proofs.Inverses.{AllSpell, Fields, Inverts, Reads, Spells, all_again, all_takes}
+use Rattle.log_reading.proofs.Inverses.{AllSpell, Fields, Reads, Spells, all_again, all_takes}
 use Rattle.log_reading.proofs.Inverses.{bind_some, closed, ended_takes, first_reads, kind_takes}
 use Rattle.log_reading.proofs.Inverses.{only_takes}
 use Rattle.log_reading.proofs.NumberFields.{u32-inverts, word-takes}

@@ -1,14 +1,13 @@
 -- The text of a telegram within its ranges is a body of a frame.
-use Rattle.std.proofs.Common.{◌≡◌, ℕ, zero, suc, ◌+◌, ◌-◌, ◌^◌, ◌≤◌, ◌<◌, List, [], ◌∷◌, ◌++◌, length}
+use Rattle.std.proofs.Common.{◌≡◌, ℕ, zero, suc, ◌+◌, ◌^◌, ◌≤◌, ◌<◌, List, ◌∷◌, ◌++◌, length}
 use Rattle.std.proofs.Common.{Bool, true, false, if◌then◌else◌, ℤ, pos, negsuc, nat_abs, codes, refl}
 use Rattle.std.proofs.Common.{arith, None, subst}
 use Rattle.std.proofs.lemmas.Int.{ints}
-use Rattle.std.specs.Fmt.{decimal, signed_decimal}
+use Rattle.std.specs.Fmt.{signed_decimal}
 use Rattle.std.specs.Prelude.{Result, Ok, Err}
 use Rattle.frame.specs.Bodies.{is_body}
 use Rattle.plant_model.specs.Names.{is_name}
 use Rattle.plant_model.specs.Numbers.{IsWithin}
-use Rattle.plant_model.specs.declared.limits.TheConstants.{MOST_NAME_BYTES}
 use Rattle.telegram.specs.Telegrams.{IsTelegram, comma, telegram, telegram_text}
 use Rattle.telegram.specs.declared.telegram.Reject.{Reject}
 use Rattle.telegram.specs.declared.telegram.Telegram.{Telegram}

@@ -13,7 +13,7 @@ use Rattle.telegram.specs.declared.telegram.Telegram.{Telegram}
 use Rattle.plant_core.specs.declared.call.Call.{Call}
 use Rattle.plant_core.specs.declared.call.Call.TheVariants as calls
 use Rattle.plant_core.specs.declared.call.Note.TheVariants.{Damaged, Rejected, Stray}
-use Rattle.log_reading.specs.Fields.{◌>>=◌, Form, at_first, at_only, by_kind, ended, next_field}
+use Rattle.log_reading.specs.Fields.{◌>>=◌, Form, at_first, at_only, by_kind, ended}
 use Rattle.log_reading.specs.Fields.{number_in, u32_of}
 use Rattle.log_reading.specs.Outcomes.{outcome_of}
 

@@ -1,5 +1,5 @@
 -- What the fields of replies say.
-use Rattle.std.specs.Prelude.{ℕ, List, [], ◌∷◌, if◌then◌else◌, Option, Some, None, codes}
+use Rattle.std.specs.Prelude.{ℕ, List, [], ◌∷◌, if◌then◌else◌, Option, Some, codes}
 use Rattle.std.specs.Str.{bytes_eq}
 use Rattle.plant_model.specs.declared.board.Cell.{Cell}
 use Rattle.plant_model.specs.declared.board.Cell.TheVariants.{Pending, Seen}

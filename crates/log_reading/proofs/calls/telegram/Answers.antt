@@ -1,5 +1,5 @@
 -- What is no body is no telegram.
-use Rattle.std.proofs.Common.{◌≡◌, ◌∙◌, ℕ, List, Option, Some, None, true, ap, sym}
+use Rattle.std.proofs.Common.{◌≡◌, ◌∙◌, ℕ, List, Option, None, true, ap, sym}
 use Rattle.std.specs.Option.{IsSome, is_some}
 use Rattle.frame.specs.Bodies.{is_body}
 use Rattle.log_reading.proofs.TelegramBodies.{no_telegram}

@@ -1,5 +1,5 @@
 -- What is read of the text is read of the line; what is no text is no line.
-use Rattle.std.proofs.Common.{◌≡◌, ◌∙◌, ℕ, List, ap}
+use Rattle.std.proofs.Common.{◌∙◌, ap}
 use Rattle.std.proofs.lemmas.List.Elements.{recursion_from_All}
 use Rattle.std.specs.Bool.{IsTrue}
 use Rattle.plant_model.specs.Names.{is_name}

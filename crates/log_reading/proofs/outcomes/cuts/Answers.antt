@@ -1,12 +1,11 @@
 -- Item by item.
-use Rattle.std.proofs.Common.{◌≡◌, ◌∙◌, ◌≤◌, ◌<◌, ℕ, List, length, Option, Some, None, ap, arith, refl, subst, sym}
+use Rattle.std.proofs.Common.{◌∙◌, ◌≤◌, ◌<◌, List, length, ap, arith, refl, subst, sym}
 use Rattle.std.proofs.lemmas.Bool.Decides.{nat_tests}
 use Rattle.plant_model.specs.declared.limits.TheConstants.{MOST_CHOICES}
 use Rattle.wrench_geometry.specs.declared.vector.Vec3.{Vec3}
 use Rattle.log_reading.specs.Outcomes.{cut_at}
 use Rattle.telegram.specs.Telegrams.{fields_left}
-use Rattle.log_reading.specs.Fields.{at_first, taken}
-use Rattle.log_reading.proofs.Inverses.{Fields}
+use Rattle.log_reading.specs.Fields.{taken}
 use Rattle.log_reading.proofs.Items.{IsGoing, begins, full, goes_on, some_left, unread}
 use Rattle.log_reading.proofs.outcomes.cuts.Goals as goal
 

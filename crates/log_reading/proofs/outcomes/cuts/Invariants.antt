@@ -1,5 +1,5 @@
 -- The cuts so far, and the fields that are left.
-use Rattle.std.proofs.Common.{ℕ, ◌-◌, length}
+use Rattle.std.proofs.Common.{◌-◌, length}
 use Rattle.plant_model.specs.declared.limits.TheConstants.{MOST_CHOICES}
 use Rattle.wrench_geometry.specs.declared.vector.Vec3.{Vec3}
 use Rattle.telegram.specs.Telegrams.{fields_left}

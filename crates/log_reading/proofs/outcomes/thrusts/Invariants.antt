@@ -1,5 +1,5 @@
 -- The thrusts so far, and the fields that are left.
-use Rattle.std.proofs.Common.{ℕ, ◌-◌, length}
+use Rattle.std.proofs.Common.{◌-◌, length}
 use Rattle.plant_model.specs.declared.limits.TheConstants.{MOST_THRUSTERS}
 use Rattle.plant_model.specs.declared.thrust.Thrust.{Thrust}
 use Rattle.telegram.specs.Telegrams.{fields_left}
