@@ -1,0 +1,16 @@
+pub mod AlsoRight
+pub mod Faults
+pub mod Logs
+pub mod Lowest
+pub mod OtherThrusts
+pub mod Pieces
+pub mod Readings
+pub mod Replies
+pub mod Rights
+pub mod SameReplies
+pub mod Standing
+pub mod Streams
+pub mod Sums
+pub mod Taken
+pub mod Twins
+pub mod Verdicts

@@ -1,0 +1,9 @@
+pub mod Accepted
+pub mod Audits
+pub mod FirstBad
+pub mod Lines
+pub mod Rights
+pub mod Steps
+pub mod Totals
+pub mod Twins
+pub mod Verdicts
