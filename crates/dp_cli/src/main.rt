@@ -6,14 +6,15 @@ ghost use Rattle.std.specs.Process.{exit_status};
 ghost use Rattle.std.specs.Vec.Iter.{into_iter_items};
 ghost use Rattle.dp_io.specs.Shown.{writing};
 ghost use Rattle.dp_words.specs.Statuses.{IsTold};
-ghost use Rattle.dp_sessions.specs.Runs.{EndsRun};
+ghost use Rattle.dp_program.specs.Runs.{EndsRun};
 ghost use Rattle.dp_sessions.specs.Sessions.{passed};
 ghost use Rattle.dp_words.specs.Statuses.{status_code};
 ghost use Rattle.dp_words.specs.Words.{word_at};
 ghost use Rattle.dp_words.specs.declared.status.RunStatus.{RunStatus as Status};
 
 use dp_io::{Gate, LazyFile, NoGate, Sink, Source, StdErr, StdOut};
-pub use dp_sessions::{check_call, replay_call, run};
+pub use dp_program::run;
+pub use dp_sessions::{check_call, replay_call};
 use dp_words::{RunStatus, WordsFault, file_words, tell};
 use std::alloc::{AllocError, Global};
 use std::env;

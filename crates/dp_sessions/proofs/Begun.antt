@@ -1,18 +1,17 @@
 -- What was begun of a stream's items, where memory ran out.
-use Rattle.std.proofs.Common.{◌≡◌, ◌≢◌, ℕ, ◌+◌, ◌<◌, ◌≤◌, List, [], ◌∷◌, ◌++◌, length, take, Bool}
-use Rattle.std.proofs.Common.{true, false, cond, not, ◌==◌, Option, Some, None, Result, Ok, Err}
-use Rattle.std.proofs.Common.{refl, sym, ◌∙◌, ap, subst, arith, append_assoc, drop}
-use Rattle.std.specs.Prelude.{map, All, IfOk, OnErr}
+use Rattle.std.proofs.Common.{◌≡◌, ℕ, ◌+◌, List, [], ◌∷◌, ◌++◌, length, take, Bool}
+use Rattle.std.proofs.Common.{true, false, cond, not, ◌==◌, Option, Result, Ok, Err}
+use Rattle.std.proofs.Common.{refl, sym, ◌∙◌, ap, subst, arith, drop}
+use Rattle.std.specs.Prelude.{map, IfOk, OnErr}
 use Rattle.std.specs.List.{filter, flat_map, fold}
 use Rattle.std.proofs.lemmas.Bool.Decides.{nat_tests}
 use Rattle.std.proofs.lemmas.Grind.{flat_map-append}
-use Rattle.std.proofs.lemmas.List.{append-nil, length-append, map-append, take-append-drop, take_all}
+use Rattle.std.proofs.lemmas.List.{append-nil, map-append, take-append-drop}
 use Rattle.std.proofs.lemmas.List.{take-append-le}
 use Rattle.std.proofs.lemmas.List.Elements.{All-head, All-tail, filter-append}
 use Rattle.std.proofs.Math.Seq.{take-append-add}
 use Rattle.dp_io.specs.Shown.{GrewInPart, Shown, TookPart}
 use Rattle.dp_io.specs.Streams.{Gave, Grew}
-use Rattle.dp_io.proofs.Grown.{Grew-append}
 use Rattle.frame.specs.Frames.{StandsFor, items, items_end}
 use Rattle.frame.specs.declared.item.Item.{Item}
 use Rattle.frame.specs.declared.item.Item.TheVariants.{Body, Damaged}
@@ -22,11 +21,11 @@ use Rattle.telegram.specs.Telegrams.{telegram}
 use Rattle.telegram.specs.declared.telegram.Telegram.{Telegram as TelegramKind}
 use Rattle.telegram.specs.declared.telegram.Telegram.TheVariants.{Position, Wind}
 use Rattle.telegram.specs.declared.telegram.Reject.{Reject}
-use Rattle.plant_core.specs.Machine.{CoreView, IsLegal, Stand, next, stand_after}
+use Rattle.plant_core.specs.Machine.{CoreView, Stand, next, stand_after}
 use Rattle.plant_core.specs.declared.call.Entry.{Entry}
 use Rattle.log_text.specs.Commands.{command_text, commands_text}
 use Rattle.dp_sessions.specs.Sessions.{AnswersItems, AreAnswered, AreFollowed, AreOfSession, Asked}
-use Rattle.dp_sessions.specs.Sessions.{BeginsStream, Block, IsBeginning, StopsAtCommand, asked}
+use Rattle.dp_sessions.specs.Sessions.{Block, IsBeginning, StopsAtCommand, asked}
 use Rattle.dp_sessions.specs.Sessions.{asked_by, asked_for, asked_of_streams, caller_of, entries_of}
 use Rattle.dp_sessions.specs.Steps.{AddsSilent, BeginsTaking, HasAnswered, HasBegun, TakesStream}
 use Rattle.dp_sessions.specs.Steps.{WroteCommands}
@@ -194,7 +193,7 @@ begun-silent start now old new given begun adds =
 
 -- ---- a whole stream
 
-begins-where : (ending : Ending) (bytes : List ℕ) (answered : List Item)
+pub begins-where : (ending : Ending) (bytes : List ℕ) (answered : List Item)
     → AreAnswered ending bytes answered → IsBeginning answered (items_end bytes)
 begins-where End bytes answered is = ([], sym is ∙ sym (append-nil answered))
 begins-where Fault bytes answered is =

@@ -1,32 +1,22 @@
--- What each end of a check says, and what the program does with words of either command.
-use Rattle.std.proofs.Common.{◌≡◌, ℕ, List, [], ◌∷◌, Bool, true, false, ◌&&◌, if◌then◌else◌}
-use Rattle.std.proofs.Common.{Option, Some, None, Ok, Result, Err, refl, sym, ◌∙◌, ap, subst}
+-- What each end of a check says.
+use Rattle.std.proofs.Common.{◌≡◌, ℕ, List, [], ◌∷◌, Bool, true, false}
+use Rattle.std.proofs.Common.{Ok, Result, Err, refl, sym, ◌∙◌, ap, subst}
 use Rattle.std.proofs.Common.{inl, inr, codes}
-use Rattle.std.proofs.lemmas.Slice.Eq.{bytes_eq-Decides}
-use Rattle.std.specs.Str.{bytes_eq}
 use Rattle.dp_io.specs.Shown.{HasRisen, NoneFailed, Shown}
 use Rattle.plant_model.specs.declared.plant.Parts.{Parts}
 use Rattle.plant_model.specs.declared.wrench.Wrench.{Wrench}
-use Rattle.telegram.specs.declared.telegram.Reject.{Reject}
 use Rattle.dp_words.specs.Faults.{TellsFaults}
 use Rattle.dp_words.specs.PlantSource.{IsPlantError, PlantSays}
-use Rattle.dp_words.specs.Words.{Placed, check_form, check_of, demand_of, form_of, is_dash}
-use Rattle.dp_words.specs.Words.{asks_for, kind_of, numbered, options, placed, places}
-use Rattle.dp_words.specs.Words.{replay_form, vote_form, written_form}
+use Rattle.dp_words.proofs.Commands.{check-other, differ, no-other}
+use Rattle.dp_words.specs.Words.{form_of}
 use Rattle.dp_words.specs.declared.form.Form.{Form}
-use Rattle.dp_words.specs.declared.form.Form.TheVariants.{Check, Replay, Vote}
-use Rattle.dp_words.specs.declared.form.WordsFault.{WordsFault}
-use Rattle.dp_words.specs.declared.form.WordsFault.TheVariants.{OtherWords, UnknownCommand}
+use Rattle.dp_words.specs.declared.form.Form.TheVariants.{Check, Replay, Run, Vote}
 use Rattle.dp_words.specs.declared.status.RunStatus.{RunStatus}
 use Rattle.dp_words.specs.declared.status.RunStatus.TheVariants.{Clear, LossFound, NoMemory}
 use Rattle.dp_words.specs.declared.status.RunStatus.TheVariants.{Usage, WriteFault}
-use Rattle.sensor_vote.specs.Calls.{names_vote}
-use Rattle.sensor_vote.proofs.Calls.{IsVote, is-vote-form}
 use Rattle.dp_sessions.specs.Checks.{AsksCheck, CheckOf, EndsFindings, IsSo, TookFindings}
 use Rattle.dp_sessions.specs.Checks.{TookSomeFindings, names_check}
 use Rattle.dp_sessions.specs.Plants.{HasPlant, HasPlantCause}
-use Rattle.dp_sessions.specs.Runs.{EndsWhere}
-use Rattle.dp_sessions.specs.Sessions.{EndsSession, IsUntouched, Passed, recorded}
 use Rattle.dp_sessions.specs.Writing.{IsWriteError}
 use Rattle.dp_sessions.proofs.Endings.{stopped-else}
 use Rattle.dp_sessions.proofs.Faults.{all-one, tells-memory, tells-same, tells-write}
@@ -35,186 +25,31 @@ use Rattle.dp_sessions.proofs.Plants.{unasked-none}
 
 -- ---- the words
 
-no-replay-of : (place plant telegrams : ℕ) (demand : Result Wrench Reject) (json : Option Bool)
-    → check_of place demand json ≡ Ok (Replay plant telegrams) → ⊥
-no-replay-of place plant telegrams (Ok demand) (Some json) is = cc
-no-replay-of place plant telegrams (Ok demand) None is = cc
-no-replay-of place plant telegrams (Err reject) json is = cc
-
-no-replay-form : (chosen all : List Placed) (plant telegrams : ℕ)
-    → check_form chosen all ≡ Ok (Replay plant telegrams) → ⊥
-no-replay-form chosen [] plant telegrams is = cc
-no-replay-form chosen (a ∷ []) plant telegrams is = cc
-no-replay-form chosen (a ∷ b ∷ []) plant telegrams is = cc
-no-replay-form chosen (a ∷ b ∷ c ∷ []) plant telegrams is = cc
-no-replay-form chosen (a ∷ b ∷ c ∷ d ∷ []) plant telegrams is =
-    no-replay-of a.0 plant telegrams (demand_of b.1 c.1 d.1) (asks_for (codes "--json") chosen) is
-no-replay-form chosen (a ∷ b ∷ c ∷ d ∷ e ∷ rest) plant telegrams is = cc
-
-other-of : (place : ℕ) (demand : Result Wrench Reject) (json : Option Bool) (fault : WordsFault)
-    → check_of place demand json ≡ Err fault → fault ≡ OtherWords
-other-of place (Ok demand) (Some json) fault is = cc
-other-of place (Ok demand) None fault is = cc
-other-of place (Err reject) json fault is = cc
-
-other-form : (chosen all : List Placed) (fault : WordsFault)
-    → check_form chosen all ≡ Err fault → fault ≡ OtherWords
-other-form chosen [] fault is = cc
-other-form chosen (a ∷ []) fault is = cc
-other-form chosen (a ∷ b ∷ []) fault is = cc
-other-form chosen (a ∷ b ∷ c ∷ []) fault is = cc
-other-form chosen (a ∷ b ∷ c ∷ d ∷ []) fault is =
-    other-of a.0 (demand_of b.1 c.1 d.1) (asks_for (codes "--json") chosen) fault is
-other-form chosen (a ∷ b ∷ c ∷ d ∷ e ∷ rest) fault is = cc
-
-no-check-if : (b : Bool) (place : ℕ) (demand : Wrench) (json : Bool) (plant telegrams : ℕ)
-    → (if b then Err OtherWords else Ok (Replay plant telegrams)) ≡ Ok (Check place demand json)
-    → ⊥
-no-check-if true place demand json plant telegrams is = cc
-no-check-if false place demand json plant telegrams is = cc
-
-no-check-form : (chosen all : List Placed) (plant : ℕ) (demand : Wrench) (json : Bool)
-    → replay_form chosen all ≡ Ok (Check plant demand json) → ⊥
-no-check-form [] [] plant demand json is = cc
-no-check-form [] (a ∷ []) plant demand json is = cc
-no-check-form [] (a ∷ b ∷ []) plant demand json is =
-    no-check-if (is_dash a && is_dash b) plant demand json a.0 b.0 is
-no-check-form [] (a ∷ b ∷ c ∷ rest) plant demand json is = cc
-no-check-form (option ∷ more) all plant demand json is = cc
-
--- the form that was found, or what was wrong
-found : (read : Result Form WordsFault) (form : Form) → numbered read ≡ Ok form → read ≡ Ok form
-found (Ok other) form is = cc
-found (Err fault) form is = cc
-
--- words that name a check have no other form
-pub no-replay : (words : List (List ℕ)) (plant telegrams : ℕ) → names_check words ≡ true
-    → form_of words ≡ Ok (Replay plant telegrams) → ⊥
-no-replay [] plant telegrams named is = cc
-no-replay (command ∷ words) plant telegrams named is =
-    let same : command ≡ codes "check" = (bytes_eq-Decides command (codes "check")).0 named in
-    let read = found (written_form (command ∷ words)) (Replay plant telegrams) is in
-    no-replay-form (options (placed words)) (places (placed words)) plant telegrams
-    (subst (λ (c : List ℕ). written_form (c ∷ words) ≡ Ok (Replay plant telegrams)) same read)
-
-other-number : (read : Result Form WordsFault) (kind : ℕ)
-    → ((fault : WordsFault) → read ≡ Err fault → fault ≡ OtherWords) → numbered read ≡ Err kind
-    → kind ≡ 3
-other-number (Ok form) kind other is = cc
-other-number (Err fault) kind other is =
-    let number : kind_of fault ≡ kind = cc in
-    sym number ∙ ap kind_of (other fault refl)
-
--- and where they have none, the words after the command aren't those of a check
+-- where words that name a check have no form, the words after the command aren't those of a check
 pub check-kind : (words : List (List ℕ)) (kind : ℕ) → names_check words ≡ true
     → form_of words ≡ Err kind → kind ≡ 3
-check-kind [] kind named is = cc
-check-kind (command ∷ words) kind named is =
-    let same : command ≡ codes "check" = (bytes_eq-Decides command (codes "check")).0 named in
-    other-number (written_form (command ∷ words)) kind
-    (λ (fault : WordsFault) (wrong : written_form (command ∷ words) ≡ Err fault).
-    other-form (options (placed words)) (places (placed words)) fault
-    (subst (λ (c : List ℕ). written_form (c ∷ words) ≡ Err fault) same wrong)) is
-
-no-vote-of : (place telegrams : ℕ) (demand : Result Wrench Reject) (json : Option Bool)
-    (report : Bool) → check_of place demand json ≡ Ok (Vote telegrams report) → ⊥
-no-vote-of place telegrams (Ok demand) (Some json) report is = cc
-no-vote-of place telegrams (Ok demand) None report is = cc
-no-vote-of place telegrams (Err reject) json report is = cc
-
-no-vote-check : (chosen all : List Placed) (telegrams : ℕ) (report : Bool)
-    → check_form chosen all ≡ Ok (Vote telegrams report) → ⊥
-no-vote-check chosen [] telegrams report is = cc
-no-vote-check chosen (a ∷ []) telegrams report is = cc
-no-vote-check chosen (a ∷ b ∷ []) telegrams report is = cc
-no-vote-check chosen (a ∷ b ∷ c ∷ []) telegrams report is = cc
-no-vote-check chosen (a ∷ b ∷ c ∷ d ∷ []) telegrams report is =
-    no-vote-of a.0 telegrams (demand_of b.1 c.1 d.1) (asks_for (codes "--json") chosen) report is
-no-vote-check chosen (a ∷ b ∷ c ∷ d ∷ e ∷ rest) telegrams report is = cc
-
--- nor do they have that of a vote
-pub checks-none : (words : List (List ℕ)) (telegrams : ℕ) (report : Bool)
-    → names_check words ≡ true → form_of words ≡ Ok (Vote telegrams report) → ⊥
-checks-none [] telegrams report named is = cc
-checks-none (command ∷ words) telegrams report named is =
-    let same : command ≡ codes "check" = (bytes_eq-Decides command (codes "check")).0 named in
-    let read = found (written_form (command ∷ words)) (Vote telegrams report) is in
-    no-vote-check (options (placed words)) (places (placed words)) telegrams report
-    (subst (λ (c : List ℕ). written_form (c ∷ words) ≡ Ok (Vote telegrams report)) same read)
+check-kind [] kind named is = absurd (cc)
+check-kind (command ∷ words) kind named is = check-other command words kind named is
 
 -- words that name a check, and whose form is none
 pub other-words : (words : List (List ℕ)) (read : Result Form ℕ) → names_check words ≡ true
     → read ≡ form_of words
     → ((plant : ℕ) (demand : Wrench) (json : Bool) → read ≡ Ok (Check plant demand json) → ⊥)
     → form_of words ≡ Err 3
-other-words words (Ok (Check plant demand json)) named is other =
+other-words [] read named is other = absurd (cc)
+other-words (command ∷ words) (Ok (Check plant demand json)) named is other =
     absurd (other plant demand json refl)
-other-words words (Ok (Replay plant telegrams)) named is other =
-    absurd (no-replay words plant telegrams named (sym is))
-other-words words (Ok (Vote telegrams report)) named is other =
-    absurd (checks-none words telegrams report named (sym is))
-other-words words (Err kind) named is other =
-    sym is ∙ ap Err (check-kind words kind named (sym is))
-
-no-check-where : (replay check vote : Bool) (chosen all : List Placed) (plant : ℕ)
-    (demand : Wrench) (json : Bool) → check ≡ false
-    → (if replay then replay_form chosen all
-    else (if check then check_form chosen all
-    else (if vote then vote_form chosen all else Err UnknownCommand)))
-    ≡ Ok (Check plant demand json)
-    → ⊥
-no-check-where true check vote chosen all plant demand json other is =
-    no-check-form chosen all plant demand json is
-no-check-where false true vote chosen all plant demand json other is = cc (other)
-no-check-where false false true chosen all plant demand json other is =
-    subst IsVote is (is-vote-form chosen all)
-no-check-where false false false chosen all plant demand json other is = cc
-
--- words that name another command have no form of a check
-pub no-check : (words : List (List ℕ)) (plant : ℕ) (demand : Wrench) (json : Bool)
-    → names_check words ≡ false → form_of words ≡ Ok (Check plant demand json) → ⊥
-no-check [] plant demand json named is = cc
-no-check (command ∷ words) plant demand json named is =
-    no-check-where (bytes_eq command (codes "replay")) (bytes_eq command (codes "check"))
-    (bytes_eq command (codes "vote")) (options (placed words)) (places (placed words)) plant demand json named
-    (found (written_form (command ∷ words)) (Check plant demand json) is)
-
-no-vote-if : (b : Bool) (telegrams : ℕ) (report : Bool) (plant place : ℕ)
-    → (if b then Err OtherWords else Ok (Replay plant place)) ≡ Ok (Vote telegrams report) → ⊥
-no-vote-if true telegrams report plant place is = cc
-no-vote-if false telegrams report plant place is = cc
-
-no-vote-replay : (chosen all : List Placed) (telegrams : ℕ) (report : Bool)
-    → replay_form chosen all ≡ Ok (Vote telegrams report) → ⊥
-no-vote-replay [] [] telegrams report is = cc
-no-vote-replay [] (a ∷ []) telegrams report is = cc
-no-vote-replay [] (a ∷ b ∷ []) telegrams report is =
-    no-vote-if (is_dash a && is_dash b) telegrams report a.0 b.0 is
-no-vote-replay [] (a ∷ b ∷ c ∷ rest) telegrams report is = cc
-no-vote-replay (option ∷ more) all telegrams report is = cc
-
-no-vote-where : (replay check vote : Bool) (chosen all : List Placed) (telegrams : ℕ)
-    (report : Bool) → vote ≡ false
-    → (if replay then replay_form chosen all
-    else (if check then check_form chosen all
-    else (if vote then vote_form chosen all else Err UnknownCommand)))
-    ≡ Ok (Vote telegrams report)
-    → ⊥
-no-vote-where true check vote chosen all telegrams report other is =
-    no-vote-replay chosen all telegrams report is
-no-vote-where false true vote chosen all telegrams report other is =
-    no-vote-check chosen all telegrams report is
-no-vote-where false false true chosen all telegrams report other is = cc (other)
-no-vote-where false false false chosen all telegrams report other is = cc
-
--- words that don't name a vote have no form of one
-pub no-vote : (words : List (List ℕ)) (telegrams : ℕ) (report : Bool)
-    → names_vote words ≡ false → form_of words ≡ Ok (Vote telegrams report) → ⊥
-no-vote [] telegrams report named is = cc
-no-vote (command ∷ words) telegrams report named is =
-    no-vote-where (bytes_eq command (codes "replay")) (bytes_eq command (codes "check"))
-    (bytes_eq command (codes "vote")) (options (placed words)) (places (placed words)) telegrams
-    report named (found (written_form (command ∷ words)) (Vote telegrams report) is)
+other-words (command ∷ words) (Ok (Run plant sensors operators workers)) named is other =
+    absurd (no-other command words (codes "check") (Run plant sensors operators workers) named
+    (differ (codes "check") (codes "run") refl) (sym is))
+other-words (command ∷ words) (Ok (Replay plant telegrams)) named is other =
+    absurd (no-other command words (codes "check") (Replay plant telegrams) named
+    (differ (codes "check") (codes "replay") refl) (sym is))
+other-words (command ∷ words) (Ok (Vote telegrams report)) named is other =
+    absurd (no-other command words (codes "check") (Vote telegrams report) named
+    (differ (codes "check") (codes "vote") refl) (sym is))
+other-words (command ∷ words) (Err kind) named is other =
+    sym is ∙ ap Err (check-kind (command ∷ words) kind named (sym is))
 
 -- ---- the ends
 
@@ -398,26 +233,3 @@ ends-usage words kind first out is unwritten one two = record {
   };
   complete = λ there first_fine out_fine. absurd (unasked-none words kind first is there);
 }
-
--- ---- what the program does
-
-pub ran-replay : {A B : Type 0} (named : Bool) (words : List (List ℕ)) (status : RunStatus)
-    (first : Passed A) (second : Passed B) (out : Shown) → (named ≡ true → ⊥)
-    → EndsSession words status (recorded second out) first.shown out
-    → EndsWhere named words status first second out
-ran-replay true words status first second out other ends = absurd (other refl)
-ran-replay false words status first second out other ends = ends
-
-pub ran-check : {A B : Type 0} (named : Bool) (words : List (List ℕ)) (status : RunStatus)
-    (first : Passed A) (second : Passed B) (out : Shown) → (named ≡ false → ⊥)
-    → EndsFindings words status first.shown out → IsUntouched second
-    → EndsWhere named words status first second out
-ran-check true words status first second out other ends same = (ends, same)
-ran-check false words status first second out other ends same = absurd (other refl)
-
-pub ran-either : {A B : Type 0} (named : Bool) (words : List (List ℕ)) (status : RunStatus)
-    (first : Passed A) (second : Passed B) (out : Shown) → EndsFindings words status first.shown out
-    → IsUntouched second → EndsSession words status (recorded second out) first.shown out
-    → EndsWhere named words status first second out
-ran-either true words status first second out findings same session = (findings, same)
-ran-either false words status first second out findings same session = session

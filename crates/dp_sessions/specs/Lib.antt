@@ -1,6 +1,5 @@
 pub mod Checks
 pub mod Plants
-pub mod Runs
 pub mod Sessions
 pub mod Steps
 pub mod Votes

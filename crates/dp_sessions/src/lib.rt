@@ -1,14 +1,13 @@
-//! What the program does with its words: the session over recorded telegrams, the check of a demand, and the call that
-//! chooses between them.
+//! The session over recorded telegrams and the check of a demand, each of the plant that a word names, and their top
+//! calls.
 #![tactic(auto)]
 
 mod check;
-mod commands;
 mod findings;
 mod replay;
 mod session;
 mod writing;
 
-pub use check::check_call;
-pub use commands::run;
-pub use replay::replay_call;
+pub use check::{check as check_demand, check_call};
+pub use replay::{replay as replay_telegrams, replay_call};
+pub use session::{Ended, Ending, has_lost_cell, write_command, write_history};

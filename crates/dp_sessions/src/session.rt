@@ -148,7 +148,7 @@ fn publish_all(core: &mut Core) -> Result<(), NoMemory>
 }
 
 /// Writes the frames of an entry's command, each as a piece of its own. False at a write fault.
-fn write_command<S: Sink>(
+pub fn write_command<S: Sink>(
     alloc: Global,
     plant: &Plant,
     entry: &Entry,
@@ -337,7 +337,7 @@ fn write_report<S: Sink>(alloc: Global, core: &Core, out: &mut S) -> Result<(), 
 }
 
 /// Writes the log of the history and then its report. The error is `WriteFault` or `NoMemory`.
-fn write_history<S: Sink>(alloc: Global, core: &Core, out: &mut S) -> Result<(), RunStatus>
+pub fn write_history<S: Sink>(alloc: Global, core: &Core, out: &mut S) -> Result<(), RunStatus>
     ensures { EndsText result (writing S.Sink out.old out.new)
         (told core.now.plant core.now.history) }
 {
@@ -355,7 +355,7 @@ fn is_lost_cell(cell: &Cell) -> bool
 }
 
 /// Whether the report says of some group that the demand isn't met after its loss.
-fn has_lost_cell(core: &Core) -> bool
+pub fn has_lost_cell(core: &Core) -> bool
     ensures { result ≡ has_lost_cell core.now.plant core.now.history }
 {
     let cells = core.cells();

@@ -1,7 +1,7 @@
 -- What the kept options and places say of a form.
 use Rattle.std.proofs.Common.{◌≡◌, ◌≢◌, ℕ, suc, ◌+◌, ◌<◌, List, [], ◌∷◌}
 use Rattle.std.proofs.Common.{length, take, Bool, true, false}
-use Rattle.std.proofs.Common.{not, ◌&&◌, if◌then◌else◌, Option, Some, None, Result}
+use Rattle.std.proofs.Common.{◌==◌, ◌||◌, not, ◌&&◌, if◌then◌else◌, Option, Some, None, Result}
 use Rattle.std.proofs.Common.{Ok, Err, refl, sym}
 use Rattle.std.proofs.Common.{ap, ap₂, ◌∙◌, map, subst, arith}
 use Rattle.std.proofs.lemmas.List.{length-map}
@@ -14,15 +14,46 @@ use Rattle.std.proofs.lemmas.List.FromFn.{length-enumerate_from, get_or-enumerat
 use Rattle.plant_model.specs.declared.wrench.Wrench.{Wrench}
 use Rattle.telegram.specs.declared.telegram.Reject.{Reject}
 use Rattle.dp_words.specs.declared.form.Form.{Form}
-use Rattle.dp_words.specs.declared.form.Form.TheVariants.{Replay}
+use Rattle.dp_words.specs.declared.form.Form.TheVariants.{Replay, Run}
 use Rattle.dp_words.specs.declared.form.WordsFault.{WordsFault}
 use Rattle.dp_words.specs.declared.form.WordsFault.TheVariants.{UnknownCommand, OtherWords}
 use Rattle.dp_words.specs.declared.sorting.TheConstants.{KEPT_OPTIONS, KEPT_PLACES}
 use Rattle.dp_words.specs.Words.{Placed, placed, is_dash, is_dashes, is_option, options, places}
 use Rattle.dp_words.specs.Words.{replay_form, check_form, check_of, demand_of, asks_for}
 use Rattle.dp_words.specs.Words.{written_form, NamesBelow, vote_form, vote_of}
+use Rattle.dp_words.specs.Words.{run_at, run_form, run_of, run_placed, run_valued}
+use Rattle.dp_words.specs.Words.{value_in, workers_in, workers_of}
 
 -- ---- the kept options and places are enough
+
+placed_kept : (workers : Option ℕ) (all : List Placed)
+    → run_placed workers (take KEPT_PLACES all) ≡ run_placed workers all
+placed_kept workers [] = refl
+placed_kept workers (plant ∷ []) = refl
+placed_kept workers (plant ∷ sensors ∷ []) = refl
+placed_kept workers (plant ∷ sensors ∷ operators ∷ []) = refl
+placed_kept workers (plant ∷ sensors ∷ operators ∷ more ∷ rest) = refl
+
+valued_kept : (option : Placed) (all : List Placed)
+    → run_valued option (take KEPT_PLACES all) ≡ run_valued option all
+valued_kept option [] = refl
+valued_kept option (a ∷ []) = refl
+valued_kept option (a ∷ b ∷ []) = refl
+valued_kept option (a ∷ b ∷ c ∷ []) = refl
+valued_kept option (a ∷ b ∷ c ∷ d ∷ []) = refl
+valued_kept option (a ∷ b ∷ c ∷ d ∷ more ∷ rest) = refl
+
+pub run_kept : (all_options all : List Placed)
+    → run_form (take KEPT_OPTIONS all_options) (take KEPT_PLACES all) ≡ run_form all_options all
+run_kept [] all = placed_kept (Some 2) all
+run_kept (option ∷ []) all = by (bytes_eq option.1 (codes "--workers"))
+  where
+    by : (b : Bool) → (if b then run_valued option (take KEPT_PLACES all)
+        else run_placed (workers_in (value_in option.1)) (take KEPT_PLACES all))
+        ≡ (if b then run_valued option all else run_placed (workers_in (value_in option.1)) all)
+    by true = valued_kept option all
+    by false = placed_kept (workers_in (value_in option.1)) all
+run_kept (option ∷ more ∷ rest) all = refl
 
 pub replay_kept : (all_options all : List Placed)
     → replay_form (take KEPT_OPTIONS all_options) (take KEPT_PLACES all)
@@ -84,6 +115,24 @@ error_where_none all_options (plant ∷ x ∷ y ∷ []) none = refl
 error_where_none all_options (plant ∷ x ∷ y ∷ n ∷ []) none =
     check_none plant.0 (demand_of x.1 y.1 n.1) (asks_for (codes "--json") all_options) none
 error_where_none all_options (plant ∷ x ∷ y ∷ n ∷ more ∷ rest) none = refl
+
+-- and of three, or with a value of four, for a run
+pub error_unless_three : (workers : Option ℕ) (all : List Placed) → length all ≢ 3
+    → Err OtherWords ≡ run_placed workers all
+error_unless_three workers [] other = refl
+error_unless_three workers (plant ∷ []) other = refl
+error_unless_three workers (plant ∷ sensors ∷ []) other = refl
+error_unless_three workers (plant ∷ sensors ∷ operators ∷ []) other = absurd (other refl)
+error_unless_three workers (plant ∷ sensors ∷ operators ∷ more ∷ rest) other = refl
+
+pub error_unless_valued : (option : Placed) (all : List Placed) → length all ≢ 4
+    → Err OtherWords ≡ run_valued option all
+error_unless_valued option [] other = refl
+error_unless_valued option (a ∷ []) other = refl
+error_unless_valued option (a ∷ b ∷ []) other = refl
+error_unless_valued option (a ∷ b ∷ c ∷ []) other = refl
+error_unless_valued option (a ∷ b ∷ c ∷ d ∷ []) other = absurd (other refl)
+error_unless_valued option (a ∷ b ∷ c ∷ d ∷ more ∷ rest) other = refl
 
 -- ---- a form names places among the words
 
@@ -150,17 +199,84 @@ vote_below count all_options (telegrams ∷ []) below =
     (below 0 telegrams (omega arith))
 vote_below count all_options (telegrams ∷ more ∷ rest) below = tt
 
-command_below : (count : ℕ) (all_options all : List Placed) (replay check vote : Bool)
+run_of_below : (count : ℕ) (workers : Option ℕ) (plant sensors operators : Placed)
+    → plant.0 < count → sensors.0 < count → operators.0 < count
+    → IfOk (run_of workers plant sensors operators) (λ form. NamesBelow form count)
+run_of_below count None plant sensors operators one two three = tt
+run_of_below count (Some workers) plant sensors operators one two three =
+    by ((is_dash plant && is_dash sensors)
+    || ((is_dash plant || is_dash sensors) && is_dash operators))
+  where
+    by : (b : Bool) → IfOk {E = WordsFault} (if b then Err OtherWords
+        else Ok (Run plant.0 sensors.0 operators.0 workers)) (λ form. NamesBelow form count)
+    by true = tt
+    by false = (one, two, three)
+
+run_placed_below : (count : ℕ) (workers : Option ℕ) (all : List Placed) → All (IsBelow count) all
+    → IfOk (run_placed workers all) (λ form. NamesBelow form count)
+run_placed_below count workers [] below = tt
+run_placed_below count workers (plant ∷ []) below = tt
+run_placed_below count workers (plant ∷ sensors ∷ []) below = tt
+run_placed_below count workers (plant ∷ sensors ∷ operators ∷ []) below =
+    run_of_below count workers plant sensors operators (below 0 plant (omega arith))
+    (below 1 plant (omega arith)) (below 2 plant (omega arith))
+run_placed_below count workers (plant ∷ sensors ∷ operators ∷ more ∷ rest) below = tt
+
+run_at_below : (count place : ℕ) (a b c d : Placed) → a.0 < count → b.0 < count → c.0 < count
+    → d.0 < count → IfOk (run_at place a b c d) (λ form. NamesBelow form count)
+run_at_below count place a b c d one two three four =
+    by (a.0 == place) (b.0 == place) (c.0 == place) (d.0 == place)
+  where
+    by : (p q r s : Bool) → IfOk {E = WordsFault}
+        (if p then run_of (workers_of a.1) b c d else
+        (if q then run_of (workers_of b.1) a c d else
+        (if r then run_of (workers_of c.1) a b d else
+        (if s then run_of (workers_of d.1) a b c else Err OtherWords))))
+        (λ form. NamesBelow form count)
+    by true q r s = run_of_below count (workers_of a.1) b c d two three four
+    by false true r s = run_of_below count (workers_of b.1) a c d one three four
+    by false false true s = run_of_below count (workers_of c.1) a b d one two four
+    by false false false true = run_of_below count (workers_of d.1) a b c one two three
+    by false false false false = tt
+
+run_valued_below : (count : ℕ) (option : Placed) (all : List Placed) → All (IsBelow count) all
+    → IfOk (run_valued option all) (λ form. NamesBelow form count)
+run_valued_below count option [] below = tt
+run_valued_below count option (a ∷ []) below = tt
+run_valued_below count option (a ∷ b ∷ []) below = tt
+run_valued_below count option (a ∷ b ∷ c ∷ []) below = tt
+run_valued_below count option (a ∷ b ∷ c ∷ d ∷ []) below =
+    run_at_below count (option.0 + 1) a b c d (below 0 a (omega arith)) (below 1 a (omega arith))
+    (below 2 a (omega arith)) (below 3 a (omega arith))
+run_valued_below count option (a ∷ b ∷ c ∷ d ∷ more ∷ rest) below = tt
+
+run_below : (count : ℕ) (all_options all : List Placed) → All (IsBelow count) all
+    → IfOk (run_form all_options all) (λ form. NamesBelow form count)
+run_below count [] all below = run_placed_below count (Some 2) all below
+run_below count (option ∷ []) all below = by (bytes_eq option.1 (codes "--workers"))
+  where
+    by : (b : Bool) → IfOk (if b then run_valued option all
+        else run_placed (workers_in (value_in option.1)) all) (λ form. NamesBelow form count)
+    by true = run_valued_below count option all below
+    by false = run_placed_below count (workers_in (value_in option.1)) all below
+run_below count (option ∷ more ∷ rest) all below = tt
+
+command_below : (count : ℕ) (all_options all : List Placed) (run replay check vote : Bool)
     → All (IsBelow count) all
-    → IfOk {E = WordsFault} (if replay then replay_form all_options all
+    → IfOk {E = WordsFault} (if run then run_form all_options all
+    else (if replay then replay_form all_options all
     else (if check then check_form all_options all
-    else (if vote then vote_form all_options all else Err UnknownCommand)))
+    else (if vote then vote_form all_options all else Err UnknownCommand))))
     (λ form. NamesBelow form count)
-command_below count all_options all true check vote below =
+command_below count all_options all true replay check vote below =
+    run_below count all_options all below
+command_below count all_options all false true check vote below =
     replay_below count all_options all below
-command_below count all_options all false true vote below = check_below count all_options all below
-command_below count all_options all false false true below = vote_below count all_options all below
-command_below count all_options all false false false below = tt
+command_below count all_options all false false true vote below =
+    check_below count all_options all below
+command_below count all_options all false false false true below =
+    vote_below count all_options all below
+command_below count all_options all false false false false below = tt
 
 -- the places of a form are among the words
 pub names_below : (words : List (List ℕ))
@@ -170,8 +286,8 @@ names_below (command ∷ words) =
     let count : length words + 1 ≡ suc (length words) = omega arith in
     subst (λ n. IfOk (written_form (command ∷ words)) (λ form. NamesBelow form n)) count
     (command_below (length words + 1) (options (placed words)) (places (placed words))
-    (bytes_eq command (codes "replay")) (bytes_eq command (codes "check"))
-    (bytes_eq command (codes "vote"))
+    (bytes_eq command (codes "run")) (bytes_eq command (codes "replay"))
+    (bytes_eq command (codes "check")) (bytes_eq command (codes "vote"))
     (places_below (length words + 1) (placed words) (placed_below words)))
 
 pub names_of : {X : Type 0} (f : X → List ℕ) (words : List X) (form : Result Form WordsFault)
@@ -189,7 +305,20 @@ command-is : {X : Type 0} (f : X → List ℕ) (words rest : List X) (command : 
 command-is f words rest command name split named =
     ap (λ text. written_form (text ∷ map f rest)) named ∙ ap (λ xs. written_form (map f xs)) (sym split)
 
--- `replay`, of the kept options and places
+-- `run`, of the kept options and places
+pub form_of_run : {X : Type 0} (f : X → List ℕ) (words rest : List X) (command : X)
+    (name : List ℕ) (kept_options kept : List Placed)
+    → words ≡ command ∷ rest → name ≡ f command → name ≡ codes "run"
+    → kept_options ≡ take KEPT_OPTIONS (options (placed (map f rest)))
+    → kept ≡ take KEPT_PLACES (places (placed (map f rest)))
+    → run_form kept_options kept ≡ written_form (map f words)
+form_of_run f words rest command name kept_options kept split named is options_are places_are =
+    ap₂ run_form options_are places_are
+    ∙ run_kept (options (placed (map f rest))) (places (placed (map f rest)))
+    ∙ ap (λ text. written_form (text ∷ map f rest)) (sym is)
+    ∙ command-is f words rest command name split named
+
+-- `replay` likewise
 pub form_of_replay : {X : Type 0} (f : X → List ℕ) (words rest : List X) (command : X)
     (name : List ℕ) (kept_options kept : List Placed)
     → words ≡ command ∷ rest → name ≡ f command → name ≡ codes "replay"

@@ -1,3 +1,4 @@
+pub mod Commands
 pub mod Forms
 pub mod Places
 pub mod WordLemmas

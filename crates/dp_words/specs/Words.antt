@@ -1,17 +1,18 @@
 -- The words of the command line: which have a written form, and what the form says.
-use Rattle.std.specs.Prelude.{ℕ, ◌<◌, List, [], ◌∷◌, ◌++◌, length, Bool, true, false, not, ◌&&◌}
-use Rattle.std.specs.Prelude.{◌==◌, nat_lt, slice_index, slice_index_or, Option, Some, None}
+use Rattle.std.specs.Prelude.{ℕ, ◌+◌, ◌-◌, ◌<◌, ◌≤◌, List, [], ◌∷◌, ◌++◌, length, take, drop}
+use Rattle.std.specs.Prelude.{Bool, true, false, not, ◌&&◌, ◌||◌}
+use Rattle.std.specs.Prelude.{◌==◌, nat_le, nat_lt, slice_index, slice_index_or, Option, Some, None}
 use Rattle.std.specs.Prelude.{Result, Ok, Err, if◌then◌else◌, codes}
 use Rattle.std.specs.List.{filter, enumerate_from, before_first, after_first}
-use Rattle.std.specs.Str.{bytes_eq}
+use Rattle.std.specs.Str.{byte, bytes_eq}
 use Rattle.plant_model.specs.Names.{dash}
 use Rattle.plant_model.specs.Versions.{IsDemand}
-use Rattle.plant_model.specs.declared.limits.TheConstants.{MOST_FORCE, MOST_MOMENT}
+use Rattle.plant_model.specs.declared.limits.TheConstants.{MOST_FORCE, MOST_MOMENT, MOST_WORKERS}
 use Rattle.plant_model.specs.declared.wrench.Wrench.{Wrench}
 use Rattle.telegram.specs.Telegrams.{◌>>=◌, within_of}
 use Rattle.telegram.specs.declared.telegram.Reject.{Reject}
 use Rattle.dp_words.specs.declared.form.Form.{Form}
-use Rattle.dp_words.specs.declared.form.Form.TheVariants.{Check, Replay, Vote}
+use Rattle.dp_words.specs.declared.form.Form.TheVariants.{Check, Replay, Run, Vote}
 use Rattle.dp_words.specs.declared.form.WordsFault.{WordsFault}
 use Rattle.dp_words.specs.declared.form.WordsFault.TheVariants.{NoWord, UnknownCommand, OtherWords}
 
@@ -48,6 +49,72 @@ abbrev pub kind_of : WordsFault → ℕ
 kind_of NoWord = 1
 kind_of UnknownCommand = 2
 kind_of OtherWords = 3
+
+-- ---- `run`
+
+-- as many workers as a session may have
+abbrev pub AreWorkers : ℕ → Type 0
+AreWorkers workers = (1 ≤ workers) × (workers ≤ MOST_WORKERS)
+
+-- the number of workers that a value says: one digit from 1 to the most
+abbrev pub workers_of : List ℕ → Option ℕ
+workers_of [] = None
+workers_of (digit ∷ []) =
+    if nat_le (byte "1") digit && nat_le digit (byte "0" + MOST_WORKERS)
+    then Some (digit - byte "0") else None
+workers_of (digit ∷ more ∷ rest) = None
+
+-- the value in a word `--workers=N`
+abbrev pub value_in : List ℕ → Option (List ℕ)
+value_in word =
+    if bytes_eq (take 10 word) (codes "--workers=") then Some (drop 10 word) else None
+
+abbrev pub workers_in : Option (List ℕ) → Option ℕ
+workers_in None = None
+workers_in (Some value) = workers_of value
+
+-- a run with these places, of which at most one is `-`, and so many workers
+abbrev pub run_of : Option ℕ → Placed → Placed → Placed → Result Form WordsFault
+run_of None plant sensors operators = Err OtherWords
+run_of (Some workers) plant sensors operators =
+    if (is_dash plant && is_dash sensors)
+    || ((is_dash plant || is_dash sensors) && is_dash operators) then Err OtherWords
+    else Ok (Run plant.0 sensors.0 operators.0 workers)
+
+abbrev pub run_placed : Option ℕ → List Placed → Result Form WordsFault
+run_placed workers [] = Err OtherWords
+run_placed workers (plant ∷ []) = Err OtherWords
+run_placed workers (plant ∷ sensors ∷ []) = Err OtherWords
+run_placed workers (plant ∷ sensors ∷ operators ∷ []) = run_of workers plant sensors operators
+run_placed workers (plant ∷ sensors ∷ operators ∷ more ∷ rest) = Err OtherWords
+
+-- the value is the word at this place, and the others are the places of the form
+abbrev pub run_at : ℕ → Placed → Placed → Placed → Placed → Result Form WordsFault
+run_at place a b c d =
+    if a.0 == place then run_of (workers_of a.1) b c d else
+    (if b.0 == place then run_of (workers_of b.1) a c d else
+    (if c.0 == place then run_of (workers_of c.1) a b d else
+    (if d.0 == place then run_of (workers_of d.1) a b c else Err OtherWords)))
+
+-- the value of the option is the word that follows it
+abbrev pub run_valued : Placed → List Placed → Result Form WordsFault
+run_valued option [] = Err OtherWords
+run_valued option (a ∷ []) = Err OtherWords
+run_valued option (a ∷ b ∷ []) = Err OtherWords
+run_valued option (a ∷ b ∷ c ∷ []) = Err OtherWords
+run_valued option (a ∷ b ∷ c ∷ d ∷ []) = run_at (option.0 + 1) a b c d
+run_valued option (a ∷ b ∷ c ∷ d ∷ more ∷ rest) = Err OtherWords
+
+-- `run` has three places, of which at most one is `-`, and may have the option `--workers N` or
+-- `--workers=N`; without it there are two workers
+abbrev pub run_form : List Placed → List Placed → Result Form WordsFault
+run_form [] all = run_placed (Some 2) all
+run_form (option ∷ []) all =
+    if bytes_eq option.1 (codes "--workers") then run_valued option all
+    else run_placed (workers_in (value_in option.1)) all
+run_form (option ∷ more ∷ rest) all = Err OtherWords
+
+-- ---- the other commands
 
 -- `replay` has two places and no option, and at most one place is `-`
 abbrev pub replay_form : List Placed → List Placed → Result Form WordsFault
@@ -107,12 +174,13 @@ abbrev pub written_form : List (List ℕ) → Result Form WordsFault
 written_form [] = Err NoWord
 written_form (command ∷ words) =
     let rest = placed words in
-    if bytes_eq command (codes "replay") then replay_form (options rest) (places rest)
+    if bytes_eq command (codes "run") then run_form (options rest) (places rest) else
+    (if bytes_eq command (codes "replay") then replay_form (options rest) (places rest)
     else
     (if bytes_eq command (codes "check") then check_form (options rest) (places rest)
     else
     (if bytes_eq command (codes "vote") then vote_form (options rest) (places rest)
-    else Err UnknownCommand))
+    else Err UnknownCommand)))
 
 -- the form, or the number of what is wrong
 abbrev pub numbered : Result Form WordsFault → Result Form ℕ
@@ -126,18 +194,22 @@ form_of words = numbered (written_form words)
 
 -- the places that the form names are among that many words
 abbrev pub NamesBelow : Form → ℕ → Type 0
+NamesBelow (Run plant sensors operators workers) count =
+    (plant < count) × (sensors < count) × (operators < count)
 NamesBelow (Replay plant telegrams) count = (plant < count) × (telegrams < count)
 NamesBelow (Check plant demand json) count = plant < count
 NamesBelow (Vote telegrams report) count = telegrams < count
 
--- what the form asks of the thrusters, if anything, is within the demand's limits
+-- what the form asks for is within its limits: so many workers, or such a demand
 abbrev pub AsksWithin : Form → Type 0
+AsksWithin (Run plant sensors operators workers) = AreWorkers workers
 AsksWithin (Replay plant telegrams) = Unit {0}
 AsksWithin (Check plant demand json) = IsDemand demand
 AsksWithin (Vote telegrams report) = Unit {0}
 
 -- the place of the plant's word, where the command has a plant
 abbrev pub plant_place : Form → Option ℕ
+plant_place (Run plant sensors operators workers) = Some plant
 plant_place (Replay plant telegrams) = Some plant
 plant_place (Check plant demand json) = Some plant
 plant_place (Vote telegrams report) = None
@@ -147,8 +219,11 @@ abbrev pub word_at : List (List ℕ) → Option ℕ → List ℕ
 word_at words None = []
 word_at words (Some place) = slice_index_or words place []
 
--- the places of the words that name files: of the plant and of the telegrams, or of these alone
+-- the places of the words that name files: of the plant, and of the sensors and the operators or of the
+-- telegrams; or of the telegrams alone
 abbrev pub files_of : Result Form ℕ → List (Option ℕ)
+files_of (Ok (Run plant sensors operators workers)) =
+    Some plant ∷ Some sensors ∷ Some operators ∷ []
 files_of (Ok (Replay plant telegrams)) = Some plant ∷ Some telegrams ∷ None ∷ []
 files_of (Ok (Check plant demand json)) = Some plant ∷ None ∷ None ∷ []
 files_of (Ok (Vote telegrams report)) = Some telegrams ∷ None ∷ None ∷ []

@@ -7,14 +7,23 @@ ghost use Rattle.dp_words.specs.Words.{replay_form, asks_for, demand_of, check_f
 ghost use Rattle.dp_words.specs.Words.{form_of, written_form, kind_of, plant_place, files_of};
 ghost use Rattle.dp_words.specs.Words.{NamesBelow, AsksWithin};
 
+use crate::run_form::run_form;
 use crate::sorting::{Placed, sort_words};
 use plant_model::limits::{MOST_FORCE, MOST_MOMENT};
 use plant_model::wrench::Wrench;
 use telegram::{Reject, number};
 
-/// What words of a written form ask for. `plant` and `telegrams` are places among the words.
+/// What words of a written form ask for. `plant`, `sensors`, `operators` and `telegrams` are places among the words.
 #[derive(Clone, Copy, Debug, PartialEq, Eq)]
 pub enum Form {
+    /// `run PLANT SENSORS OPERATORS`: a session over two streams that are read at the same time, with so many workers
+    /// beside them.
+    Run {
+        plant: usize,
+        sensors: usize,
+        operators: usize,
+        workers: u32,
+    },
     /// `replay PLANT TELEGRAMS`: a session over recorded telegrams.
     Replay {
         plant: usize,
@@ -65,7 +74,8 @@ impl Form {
             → IfSome result (λ place. place < count) }
     {
         match self {
-            Form::Replay { plant, .. } | Form::Check { plant, .. } => Some(plant),
+            Form::Run { plant, .. } | Form::Replay { plant, .. } | Form::Check { plant, .. } =>
+                Some(plant),
             Form::Vote { .. } => None,
         }
     }
@@ -164,6 +174,7 @@ fn written_form(words: &[String]) -> Result<Form, WordsFault>
     let sorted = sort_words(words);
     let (options, places) = (sorted.options.as_slice(), sorted.places.as_slice());
     match command.as_str() {
+        "run" => run_form(options, places),
         "replay" => replay_form(options, places),
         "check" => check_form(options, places),
         "vote" => vote_form(options, places),
@@ -176,10 +187,12 @@ fn written_form(words: &[String]) -> Result<Form, WordsFault>
 ///
 /// The words after the command are read from left to right. The first `--` is dropped, and every word after it is
 /// a place. Before it, a word that starts with `-` and is longer than that is an option; every other word is a
-/// place. `replay` has the places PLANT and TELEGRAMS, of which at most one is the word `-`, and no option. `check`
-/// has the places PLANT, X, Y and N, and may have the option `--json`, at most once. X and Y, in kN, and N, in
-/// kN·dm, are numbers as telegrams spell them, within the demand's limits. `vote` has the place TELEGRAMS, and may
-/// have the option `--report`, at most once.
+/// place, but for the value of an option. `run` has the places PLANT, SENSORS and OPERATORS, of which at most one is
+/// the word `-`, and may have the option `--workers N` or `--workers=N`, at most once, with one digit from 1 to 8;
+/// without it there are 2 workers. `replay` has the places PLANT and TELEGRAMS, of which at most one is the word `-`,
+/// and no option. `check` has the places PLANT, X, Y and N, and may have the option `--json`, at most once. X and Y, in
+/// kN, and N, in kN·dm, are numbers as telegrams spell them, within the demand's limits. `vote` has the place
+/// TELEGRAMS, and may have the option `--report`, at most once.
 pub fn form_of(words: &[String]) -> Result<Form, u32>
     ensures form { result ≡ form_of (map string_bytes words.now) }
     ensures within { IfOk result (λ form. NamesBelow form (length words.now)) }
@@ -192,12 +205,20 @@ pub fn form_of(words: &[String]) -> Result<Form, u32>
 }
 
 /// The places of the words that name files, in the order of the sources that `run` takes: the plant's, also where
-/// it is the built-in one, and the telegrams'; of `vote` the telegrams' alone. None where the form has no such file,
-/// and where the words have no written form.
+/// it is the built-in one, and the sensors' and the operators', or the telegrams'; of `vote` the telegrams' alone.
+/// None where the form has no such file, and where the words have no written form.
 pub fn file_words(words: &[String]) -> [Option<usize>; 3]
     ensures { result ≡ files_of (form_of (map string_bytes words.now)) }
 {
     match form_of(words) {
+        Ok(
+            Form::Run {
+                plant,
+                sensors,
+                operators,
+                ..
+            },
+        ) => [Some(plant), Some(sensors), Some(operators)],
         Ok(Form::Replay { plant, telegrams }) => [Some(plant), Some(telegrams), None],
         Ok(Form::Check { plant, .. }) => [Some(plant), None, None],
         Ok(Form::Vote { telegrams, .. }) => [Some(telegrams), None, None],

@@ -4,6 +4,7 @@
 mod form;
 mod line;
 mod plant_source;
+mod run_form;
 mod sorting;
 mod status;
 

@@ -21,6 +21,33 @@ fn words_without_a_form(rt: HostRuntime) -> Result<(), Fail> {
         ("fly", 2),
         ("fly --json demo 0 0 0", 2),
         ("-- check demo 0 0 0", 2),
+        ("run", 3),
+        ("run demo", 3),
+        ("run demo -", 3),
+        ("run demo - -", 3),
+        ("run - - x", 3),
+        ("run - x -", 3),
+        ("run - - -", 3),
+        ("run demo a b c", 3),
+        ("run demo a b --json", 3),
+        ("run demo a b --workers", 3),
+        ("run demo a b --workers -- 2", 3),
+        ("run demo a b --workers 0", 3),
+        ("run demo a b --workers 9", 3),
+        ("run demo a b --workers 12", 3),
+        ("run demo a b --workers -", 3),
+        ("run demo a b --workers -2", 3),
+        ("run demo a --workers b", 3),
+        ("run demo a b --workers=", 3),
+        ("run demo a b --workers=0", 3),
+        ("run demo a b --workers=9", 3),
+        ("run demo a b --workers=02", 3),
+        ("run demo a b --workersx", 3),
+        ("run demo a b --workers 2 --workers 2", 3),
+        ("run demo a b --workers=2 --workers=2", 3),
+        ("run demo a b --workers 2 --workers=2", 3),
+        ("run demo a b --workers --workers=2", 3),
+        ("run demo a b -- --workers=2", 3),
         ("replay", 3),
         ("replay demo", 3),
         ("replay demo - x", 3),
@@ -58,6 +85,46 @@ fn words_without_a_form(rt: HostRuntime) -> Result<(), Fail> {
         assert_eq!(rt;
             form_of(words_of(alloc, line)?.as_slice()),
             Err(want),
+            "at {line}"
+        );
+    }
+    Ok(())
+}
+
+#[test]
+fn words_of_run(rt: HostRuntime) -> Result<(), Fail> {
+    let alloc = rt.alloc();
+    for (line, (plant, sensors, operators), workers) in [
+        ("run demo a b", (1, 2, 3), 2),
+        ("run demo - b", (1, 2, 3), 2),
+        ("run - a b", (1, 2, 3), 2),
+        ("run demo a b --workers 1", (1, 2, 3), 1),
+        ("run demo a --workers 3 b", (1, 2, 5), 3),
+        ("run demo --workers 3 a b", (1, 4, 5), 3),
+        ("run --workers 8 demo a -", (3, 4, 5), 8),
+        ("run --workers=8 demo a -", (2, 3, 4), 8),
+        ("run demo --workers=1 a b", (1, 3, 4), 1),
+        ("run demo a b --workers=5", (1, 2, 3), 5),
+        ("run --workers 4 -- demo -x --", (4, 5, 6), 4),
+        ("run demo -- a b", (1, 3, 4), 2),
+        ("run demo a b --", (1, 2, 3), 2),
+        ("run demo -- --workers 2", (1, 3, 4), 2),
+        ("run --workers 4 4 4 4", (3, 4, 5), 4),
+    ] {
+        let words = words_of(alloc, line)?;
+        assert_eq!(rt;
+            form_of(words.as_slice()),
+            Ok(Form::Run {
+                plant,
+                sensors,
+                operators,
+                workers
+            }),
+            "at {line}"
+        );
+        assert_eq!(rt;
+            file_words(words.as_slice()),
+            [Some(plant), Some(sensors), Some(operators)],
             "at {line}"
         );
     }

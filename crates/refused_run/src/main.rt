@@ -4,7 +4,7 @@
 #![tactic(auto)]
 
 use dp_io::{LazyFile, NoGate, StdErr, StdOut};
-use dp_sessions::run;
+use dp_program::run;
 use dp_words::file_words;
 use std::alloc::{AllocError, Global};
 use std::process::ExitCode;

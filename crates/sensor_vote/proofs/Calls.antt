@@ -3,7 +3,6 @@ use Rattle.std.proofs.Common.{◌≡◌, ◌≢◌, ℕ, ◌<◌, ◌≤◌, Lis
 use Rattle.std.proofs.Common.{Result, Ok, Err, refl, sym, ◌∙◌, ap, subst, inl, arith, codes}
 use Rattle.std.proofs.Common.{length}
 use Rattle.std.proofs.lemmas.List.Elements.{All-cons, All-nil}
-use Rattle.std.proofs.lemmas.Slice.Eq.{bytes_eq-Decides}
 use Rattle.std.specs.List.{Any}
 use Rattle.std.specs.Prelude.{All}
 use Rattle.dp_io.specs.Shown.{HasRisen, NoneFailed, Shown}
@@ -13,16 +12,14 @@ use Rattle.dp_io.specs.Streams.{Gave}
 use Rattle.plant_file.specs.declared.fault.PlantFault.{PlantFault}
 use Rattle.plant_model.specs.declared.limits.TheConstants.{MOST_STREAM_BYTES}
 use Rattle.dp_words.specs.Faults.{HasGreaterCount, TellsFaults}
-use Rattle.dp_words.specs.Words.{Placed, asks_for, form_of, kind_of, numbered, options, placed}
-use Rattle.dp_words.specs.Words.{places, vote_form, vote_of, written_form}
+use Rattle.dp_words.specs.Words.{form_of}
 use Rattle.dp_words.specs.declared.form.Form.{Form}
-use Rattle.dp_words.specs.declared.form.Form.TheVariants.{Check, Replay, Vote}
-use Rattle.dp_words.specs.declared.form.WordsFault.{WordsFault}
-use Rattle.dp_words.specs.declared.form.WordsFault.TheVariants.{OtherWords}
+use Rattle.dp_words.specs.declared.form.Form.TheVariants.{Check, Replay, Run, Vote}
 use Rattle.dp_words.specs.declared.status.RunStatus.{RunStatus}
 use Rattle.dp_words.specs.declared.status.RunStatus.TheVariants.{Clear, JournalFull, LossFound}
 use Rattle.dp_words.specs.declared.status.RunStatus.TheVariants.{NoMemory, Plant, StreamTooLong}
 use Rattle.dp_words.specs.declared.status.RunStatus.TheVariants.{Usage, WriteFault}
+use Rattle.dp_words.proofs.Commands.{differ, no-other, vote-other}
 use Rattle.sensor_vote.specs.Calls.{AsksVote, EndsVote, TellsFew, WritesPart, WritesWhole}
 use Rattle.sensor_vote.specs.Calls.{WritesWholeOf, names_vote, status_of}
 use Rattle.sensor_vote.specs.declared.stream.Ending.{Ending}
@@ -30,49 +27,25 @@ use Rattle.sensor_vote.specs.declared.stream.Ending.TheVariants.{End, Fault, Lon
 
 -- ---- the words
 
--- the form of words that name a vote is that of a vote, or they have none
-abbrev pub IsVote : Result Form WordsFault → Type 0
-IsVote (Ok (Vote telegrams report)) = Unit {0}
-IsVote (Ok (Replay plant telegrams)) = ⊥
-IsVote (Ok (Check plant demand json)) = ⊥
-IsVote (Err fault) = fault ≡ OtherWords
-
-is-vote-of : (place : ℕ) (report : Option Bool) → IsVote (vote_of place report)
-is-vote-of place (Some report) = tt
-is-vote-of place None = refl
-
-pub is-vote-form : (chosen all : List Placed) → IsVote (vote_form chosen all)
-is-vote-form chosen [] = refl
-is-vote-form chosen (a ∷ []) = is-vote-of a.0 (asks_for (codes "--report") chosen)
-is-vote-form chosen (a ∷ b ∷ rest) = refl
-
-is-vote : (words : List (List ℕ)) → names_vote words ≡ true → IsVote (written_form words)
-is-vote [] named = absurd (cc)
-is-vote (command ∷ words) named =
-    let same : command ≡ codes "vote" = (bytes_eq-Decides command (codes "vote")).0 named in
-    subst (λ (c : List ℕ). IsVote (written_form (c ∷ words))) (sym same)
-    (is-vote-form (options (placed words)) (places (placed words)))
-
-usage-where : (read : Result Form WordsFault) → IsVote read
-    → ((telegrams : ℕ) (report : Bool) → numbered read ≡ Ok (Vote telegrams report) → ⊥)
-    → numbered read ≡ Err (kind_of OtherWords)
-usage-where (Ok (Vote telegrams report)) is other = absurd (other telegrams report refl)
-usage-where (Ok (Replay plant telegrams)) is other = absurd is
-usage-where (Ok (Check plant demand json)) is other = absurd is
-usage-where (Err fault) is other = ap (λ (f : WordsFault). Err (kind_of f)) is
-
 -- words that name a vote and have another form have none, for the words after the first
-pub vote-usage : (words : List (List ℕ)) → names_vote words ≡ true
-    → ((telegrams : ℕ) (report : Bool) → form_of words ≡ Ok (Vote telegrams report) → ⊥)
-    → form_of words ≡ Err (kind_of OtherWords)
-vote-usage words named other = usage-where (written_form words) (is-vote words named) other
-
 pub other-words : (words : List (List ℕ)) (read : Result Form ℕ) → names_vote words ≡ true
     → read ≡ form_of words
     → ((telegrams : ℕ) (report : Bool) → read ≡ Ok (Vote telegrams report) → ⊥)
     → form_of words ≡ Err 3
-other-words words read named is other =
-    vote-usage words named (λ telegrams report e. other telegrams report (is ∙ e))
+other-words [] read named is other = absurd (cc)
+other-words (command ∷ words) (Ok (Vote telegrams report)) named is other =
+    absurd (other telegrams report refl)
+other-words (command ∷ words) (Ok (Run plant sensors operators workers)) named is other =
+    absurd (no-other command words (codes "vote") (Run plant sensors operators workers) named
+    (differ (codes "vote") (codes "run") refl) (sym is))
+other-words (command ∷ words) (Ok (Replay plant telegrams)) named is other =
+    absurd (no-other command words (codes "vote") (Replay plant telegrams) named
+    (differ (codes "vote") (codes "replay") refl) (sym is))
+other-words (command ∷ words) (Ok (Check plant demand json)) named is other =
+    absurd (no-other command words (codes "vote") (Check plant demand json) named
+    (differ (codes "vote") (codes "check") refl) (sym is))
+other-words (command ∷ words) (Err kind) named is other =
+    sym is ∙ ap Err (vote-other command words kind named (sym is))
 
 has-form : (words : List (List ℕ)) (report : Bool) (kind : ℕ) → AsksVote words report
     → form_of words ≡ Err kind → ⊥

@@ -1,7 +1,8 @@
 //! Calls of the program over sources and sinks in memory.
 
 use dp_io::{MemorySink, MemorySource, NoGate};
-use dp_sessions::{replay_call, run};
+use dp_program::run;
+use dp_sessions::replay_call;
 use dp_words::RunStatus;
 use std::alloc::Global;
 use std::sync::Wait;

@@ -1,9 +1,8 @@
 -- What each end of a check says: no plant, findings that were written, and writing that was stopped.
 use Rattle.std.proofs.Common.{◌≡◌, [], ap, Err}
 use Rattle.std.proofs.Math.Path.{refl}
-use Rattle.dp_io.specs.Shown.{NoneFailed, Shown, reading, writing}
+use Rattle.dp_io.specs.Shown.{NoneFailed, reading, writing}
 use Rattle.dp_words.specs.declared.status.RunStatus.TheVariants.{NoMemory, WriteFault}
-use Rattle.std.specs.Prelude.{All}
 use Rattle.std.proofs.lemmas.List.Elements.{All-nil}
 use Rattle.dp_sessions.proofs.Checked.{IsAsked, ends-held, ends-lost, ends-no_plant, ends-stopped}
 use Rattle.dp_sessions.proofs.Faults.{tells-no_plant}

@@ -1,14 +1,13 @@
 -- The session's history stands for its stream, and what was written is its frames, log and report.
 use Rattle.std.proofs.Common.{◌≡◌, ◌≢◌, ℕ, ap, inl, inr, rules, subst, ◌∙◌}
 use Rattle.std.proofs.Math.Path.{refl}
-use Rattle.std.proofs.lemmas.Result.{err_from_is_err_and}
 use Rattle.plant_model.specs.declared.plant.Parts.{Parts}
 use Rattle.plant_core.specs.Machine.{CoreView, IsLegal, Stand, after_reply}
 use Rattle.plant_core.specs.declared.call.Call.TheVariants.{Close}
 use Rattle.dp_io.specs.Shown.{Took, TookPart, writing}
 use Rattle.dp_sessions.specs.declared.session.Ending.TheVariants.{Write}
 use Rattle.dp_sessions.specs.Sessions.{has_lost_cell, passed, status_of, told}
-use Rattle.dp_sessions.specs.Steps.{BeginsTaking, TakesStream}
+use Rattle.dp_sessions.specs.Steps.{TakesStream}
 use Rattle.dp_sessions.proofs.Begun.{begins-taken}
 use Rattle.dp_sessions.proofs.Closed.{IsClosed, closed-session, new-plant, session-begun, session-part}
 use Rattle.dp_sessions.proofs.Closed.{session-starved, session-stopped, session-whole}

@@ -1,5 +1,5 @@
 -- The bytes so far were fed, and their items answered.
-use Rattle.std.proofs.Common.{◌≡◌, List, ℕ, ◌++◌, take, Option, None}
+use Rattle.std.proofs.Common.{◌≡◌, List, ℕ, take, Option, None}
 use Rattle.frame.specs.Frames.{StandsFor, items}
 use Rattle.dp_sessions.specs.Steps.{HasAnswered, IsRunning, TakesBytes}
 use Rattle.dp_sessions.proofs.session.take_bytes.Given as goal

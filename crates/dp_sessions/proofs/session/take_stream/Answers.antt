@@ -1,6 +1,6 @@
 -- The end of the stream, an item at which it ends, and a piece that passes the stream's limit.
 use Rattle.std.proofs.Common.{◌≡◌, ◌<◌, ◌≤◌, List, ℕ, [], ◌++◌, length, take, drop, Option}
-use Rattle.std.proofs.Common.{Some, None, refl, Ok, ap, arith, rules, subst, sym, ◌∙◌, ◌≢◌, append_assoc}
+use Rattle.std.proofs.Common.{Some, None, refl, Ok, ap, arith, rules, subst, sym, ◌∙◌, append_assoc}
 use Rattle.std.proofs.lemmas.Grind.{common_steps}
 use Rattle.std.proofs.lemmas.Result.{IfOk-weaker, err_from_is_err_and}
 use Rattle.frame.specs.Frames.{items, items_end}
@@ -11,7 +11,6 @@ use Rattle.dp_io.specs.Shown.{reading, writing}
 use Rattle.dp_sessions.specs.Sessions.{most_read}
 use Rattle.dp_sessions.specs.Steps.{TakesBytes}
 use Rattle.dp_sessions.specs.declared.session.Ending.{Ending}
-use Rattle.dp_sessions.specs.declared.session.Ending.TheVariants.{Write}
 use Rattle.dp_sessions.proofs.Given.{gave-more, take-limit}
 use Rattle.dp_sessions.proofs.Streams.{IsAtEnd, emptied-after, gave-none, piece-split, rose-later}
 use Rattle.dp_sessions.proofs.Streams.{stream-ended, stream-fault, stream-long, stream-stopped}

@@ -1,5 +1,5 @@
 -- A line more, whole or in part, and what stands after the last line.
-use Rattle.std.proofs.Common.{◌<◌, ◌+◌, List, ℕ, ◌++◌, length, take, sym, subst, ◌∙◌, arith}
+use Rattle.std.proofs.Common.{◌<◌, ◌+◌, List, ℕ, ◌++◌, length, take, sym, subst, ◌∙◌}
 use Rattle.std.proofs.lemmas.Result.{err_from_is_err_and, on_err_weaker}
 use Rattle.dp_io.specs.Streams.{Grew}
 use Rattle.dp_io.proofs.Grown.{Grew-append}

@@ -1,8 +1,19 @@
 -- The kept options and places are enough for each command.
 use Rattle.std.proofs.Common.{ap, map, string_bytes, ◌∙◌}
 use Rattle.dp_words.specs.Sorting.{pair}
-use Rattle.dp_words.proofs.Forms.{form_of_check, form_of_replay, form_of_vote, names_of}
+use Rattle.dp_words.proofs.Forms.{form_of_check, form_of_replay, form_of_run, form_of_vote}
+use Rattle.dp_words.proofs.Forms.{names_of}
 use Rattle.dp_words.proofs.form.written_form.Goals as goal
+
+pub returns-in-run-clause-form : goal.returns-in-run-clause-form
+returns-in-run-clause-form c =
+    let sorted = c.sort_words-sorted in
+    c.run_form.ensures.form
+    ∙ form_of_run string_bytes c.args.words.now c.in-Some.words.now c.in-Some.command.now
+    c.as_str.result.now (map pair c.as_slice-options.result.now)
+    (map pair c.as_slice-places.result.now) c.in-Some.ensures.cases.0 c.as_str.ensures.value
+    c.in-run.is (ap (map pair) c.as_slice-options.ensures.value ∙ sorted.ensures.options)
+    (ap (map pair) c.as_slice-places.ensures.value ∙ sorted.ensures.places)
 
 pub returns-in-replay-clause-form : goal.returns-in-replay-clause-form
 returns-in-replay-clause-form c =
@@ -33,6 +44,10 @@ returns-in-vote-clause-form c =
     (map pair c.as_slice-places.result.now) c.in-Some.ensures.cases.0 c.as_str.ensures.value
     c.in-vote.is (ap (map pair) c.as_slice-options.ensures.value ∙ sorted.ensures.options)
     (ap (map pair) c.as_slice-places.ensures.value ∙ sorted.ensures.places)
+
+pub returns-in-run-clause-within : goal.returns-in-run-clause-within
+returns-in-run-clause-within c =
+    names_of string_bytes c.args.words.now c.run_form.result (returns-in-run-clause-form c)
 
 pub returns-in-replay-clause-within : goal.returns-in-replay-clause-within
 returns-in-replay-clause-within c =

@@ -1,15 +1,13 @@
 //! All that the program does.
 ghost use Rattle.std.specs.Prelude.{◌≡◌, false, map, string_bytes};
 ghost use Rattle.dp_io.specs.Shown.{writing};
-ghost use Rattle.dp_sessions.specs.Checks.{names_check};
-ghost use Rattle.dp_sessions.specs.Plants.{NamesNoFile};
-ghost use Rattle.dp_sessions.specs.Runs.{EndsRun, EndsWhere};
+ghost use Rattle.dp_program.specs.Runs.{EndsElse, EndsRun};
 ghost use Rattle.dp_sessions.specs.Sessions.{passed};
 ghost use Rattle.sensor_vote.specs.Calls.{names_vote};
 
-use crate::check::check;
-use crate::replay::replay;
+use crate::watch::watch;
 use dp_io::{Gate, Sink, Source};
+use dp_sessions::{check_demand, replay_telegrams};
 use dp_words::{Form, RunStatus, form_of, tell};
 use sensor_vote::{names_vote, vote_call};
 use std::alloc::Global;
@@ -17,28 +15,43 @@ use std::sync::Wait;
 use std::thread::Threads;
 
 /// What the words ask for, without a word to the error output. They don't name a vote.
-fn answer<A: Source, B: Source, O: Sink>(
+fn answer<
+    R: Threads + Wait + Sync,
+    A: Source,
+    B: Source,
+    C: Source + Send,
+    O: Sink,
+    G: Gate + Sync,
+>(
+    rt: &R,
     alloc: Global,
     words: &[String],
     first: &mut A,
     second: &mut B,
+    third: &mut C,
     out: &mut O,
+    gate: &G,
 ) -> RunStatus
     requires { names_vote (map string_bytes words.now) ≡ false }
-    ensures ends { EndsWhere (names_check (map string_bytes words.now)) (map string_bytes words.now)
-        result (passed A.Source first.old first.new) (passed B.Source second.old second.new)
+    ensures { EndsElse (map string_bytes words.now) result (passed A.Source first.old first.new)
+        (passed B.Source second.old second.new) (passed C.Source third.old third.new)
         (writing O.Sink out.old out.new) }
-    ensures unread { NamesNoFile (map string_bytes words.now) → first.new ≡ first.old }
 {
     match form_of(words) {
-        Ok(Form::Replay { plant, .. }) => replay(alloc, words[plant].as_str(), first, second, out),
+        Ok(Form::Run { plant, workers, .. }) => {
+            let word = words[plant].as_str();
+            watch(rt, alloc, word, workers, first, second, third, out, gate)
+        }
+        Ok(Form::Replay { plant, .. }) => {
+            replay_telegrams(alloc, words[plant].as_str(), first, second, out)
+        }
         Ok(
             Form::Check {
                 plant,
                 demand,
                 json,
             },
-        ) => check(alloc, words[plant].as_str(), demand, json, first, out),
+        ) => check_demand(alloc, words[plant].as_str(), demand, json, first, out),
         Ok(Form::Vote { .. }) => unreachable!(),
         Err(kind) => RunStatus::Usage(kind),
     }
@@ -46,9 +59,11 @@ fn answer<A: Source, B: Source, O: Sink>(
 
 /// All that the program does. The words are those after the program's name.
 ///
-/// The sources are those of the plant, of the sensors or the recorded telegrams, and of the operators. Today the
-/// commands are `replay`, `check` and `vote`, which start no thread, don't read the third source and tell the gate
-/// nothing. The first source is that of a vote's telegrams.
+/// The sources are those of the plant, of the sensors or the recorded telegrams, and of the operators. `run` is a session
+/// over two streams: the calling thread answers the sensors, another one the operators, and workers beside them publish a
+/// verdict on each loss for each version; the gate is told of what they do. The other commands, `replay`, `check` and
+/// `vote`, start no thread, don't read the third source and tell the gate nothing. The first source is that of a vote's
+/// telegrams.
 pub fn run<
     R: Threads + Wait + Sync,
     A: Source,
@@ -58,20 +73,20 @@ pub fn run<
     E: Sink,
     G: Gate + Sync,
 >(
-    _rt: &R,
+    rt: &R,
     alloc: Global,
     words: &[String],
     first: &mut A,
     second: &mut B,
-    _third: &mut C,
+    third: &mut C,
     out: &mut O,
     err: &mut E,
-    _gate: &G,
+    gate: &G,
 ) -> RunStatus
     ensures { EndsRun (map string_bytes words.now) result (record {
       first = passed A.Source first.old first.new;
       second = passed B.Source second.old second.new;
-      third = passed C.Source _third.old _third.new;
+      third = passed C.Source third.old third.new;
       out = writing O.Sink out.old out.new;
       err = writing E.Sink err.old err.new;
     }) }
@@ -79,7 +94,7 @@ pub fn run<
     if names_vote(words) {
         return vote_call(words, first, out, err);
     }
-    let status = answer(alloc, words, first, second, out);
+    let status = answer(rt, alloc, words, first, second, third, out, gate);
     tell(&status, err);
     status
 }

@@ -1,0 +1,2 @@
+pub mod Gravest
+pub mod Named

@@ -1,0 +1,8 @@
+//! All that the program does: the call that chooses, by its words, between a session over two streams, a session over
+//! recorded telegrams, a check and a vote.
+#![tactic(auto)]
+
+mod program;
+mod watch;
+
+pub use program::run;
