@@ -1,0 +1,5 @@
+pub mod Laws
+pub mod Projections
+pub mod Streams
+pub mod Summaries
+pub mod Texts
