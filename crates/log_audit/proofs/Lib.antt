@@ -3,6 +3,7 @@ pub mod Faults
 pub mod Logs
 pub mod Lowest
 pub mod OtherThrusts
+pub mod Parts
 pub mod Pieces
 pub mod Readings
 pub mod Replies

@@ -136,7 +136,7 @@ module _ (plant : Parts) (named : AreNamed plant.groups.items)
       → AreLines (log_lines plant history)
   log-good history logged = (head, entries-good history (lined plant history logged))
 
-  same_entry : (entry other : Entry) → HasLine plant entry → HasLine plant other
+  pub same_entry : (entry other : Entry) → HasLine plant entry → HasLine plant other
       → entry_line plant entry ≡ entry_line plant other → entry ≡ other
   same_entry entry other first second same =
       one_entry plant named distinct (entry_line plant other) entry other

@@ -32,7 +32,7 @@ pub named : (plant : Parts) → HasNames plant → AreNamed plant.groups.items
 named plant names =
     recursion_from_All (λ group. IsTrue (is_name group.name)) plant.groups.items names.groups
 
-head-good : (plant : Parts) → HasNames plant → HasNoFeed (head_line plant)
+pub head-good : (plant : Parts) → HasNames plant → HasNoFeed (head_line plant)
 head-good plant names =
     no_feed-body (head_line plant)
     (part-append (part-known (codes "LOG,1,") refl) (part-name plant.name names.own)).each

@@ -1,5 +1,5 @@
 -- Lines one after another, and the whole lines of what they make.
-use Rattle.std.proofs.Common.{◌≡◌, ◌∙◌, ℕ, ◌≤◌, ◌<◌, List, [], ◌∷◌, ◌++◌, length, take}
+use Rattle.std.proofs.Common.{◌≡◌, ◌∙◌, ℕ, zero, suc, ◌≤◌, ◌<◌, List, [], ◌∷◌, ◌++◌, length, take}
 use Rattle.std.proofs.Common.{Bool, true, false, cond, ◌==◌, refl, ap, sym, arith, append_assoc}
 use Rattle.std.proofs.Common.{append-nil}
 use Rattle.std.proofs.lemmas.List.{take-append-le}
@@ -141,6 +141,17 @@ first-lines count lines more good few =
 pub lines-append : (xs ys : List (List ℕ)) → AreLines xs → AreLines ys → AreLines (xs ++ ys)
 lines-append [] ys first second = second
 lines-append (x ∷ xs) ys first second = (first.0, lines-append xs ys first.1 second)
+
+pub lines-taken : (count : ℕ) (lines : List (List ℕ)) → AreLines lines
+    → AreLines (take count lines)
+lines-taken zero lines good = tt
+lines-taken (suc count) [] good = tt
+lines-taken (suc count) (own ∷ lines) good = (good.0, lines-taken count lines good.1)
+
+-- the text of lines tells them
+pub text-same : (xs ys : List (List ℕ)) → AreLines xs → AreLines ys → text_of xs ≡ text_of ys
+    → xs ≡ ys
+text-same xs ys first second same = sym (whole-all xs first) ∙ ap whole_lines same ∙ whole-all ys second
 
 pub text-append : (xs ys : List (List ℕ)) → text_of (xs ++ ys) ≡ text_of xs ++ text_of ys
 text-append [] ys = refl

@@ -3,6 +3,7 @@ pub mod Audits
 pub mod FirstBad
 pub mod Lines
 pub mod Rights
+pub mod Sessions
 pub mod Steps
 pub mod Totals
 pub mod Twins

@@ -146,7 +146,7 @@ impl<A: Allocate + Drop> Auditor<A> {
     /// The verdict on the text that the lines are, each with its line feed.
     pub fn finish(self) -> Verdict
         ensures { (lines : List (List ℕ)) → Audits self lines
-            → IsVerdict self.core.plant (text_of lines) result }
+            → IsVerdict false self.core.plant (text_of lines) result }
     {
         match self.stage {
             Stage::Before => Verdict::NotALog { line: 1 },
@@ -158,7 +158,7 @@ impl<A: Allocate + Drop> Auditor<A> {
     /// The verdict on the text that the lines are, with a piece behind them that no line feed ends.
     pub fn finish_cut(self) -> Verdict
         ensures { (lines : List (List ℕ)) (piece : List ℕ) → Audits self lines → HasNoFeed piece
-            → 0 < length piece → IsVerdict self.core.plant (text_of lines ++ piece) result }
+            → 0 < length piece → IsVerdict false self.core.plant (text_of lines ++ piece) result }
     {
         match self.stage {
             Stage::Before => Verdict::NotALog { line: 1 },

@@ -2,7 +2,8 @@
 ghost use Rattle.log_audit.specs.Twins.{RepliesAreAlike, RightsAreAlike, TwinsStandAlike};
 ghost use Rattle.log_audit.specs.Verdicts.{VerdictsAreOne};
 
-use log_text::logs_tell_histories;
+use crate::head::has_names;
+use log_text::{logs_tell_histories, texts_tell_histories};
 use plant_model::plant::Plant;
 
 /// How a plant's machine stands after a history doesn't depend on the denominators and the thrusts of its commands.
@@ -17,9 +18,11 @@ pub fn replies_are_alike()
     ensures allocations { RightsAreAlike }
 {}
 
-/// A text has one verdict.
+/// A text has one verdict, as a log and as all that a session writes.
 pub fn verdicts_are_one(plant: &Plant)
     ensures { VerdictsAreOne plant.now }
 {
+    has_names(plant);
     logs_tell_histories(plant);
+    texts_tell_histories(plant);
 }

@@ -30,7 +30,7 @@ pub fn verdict_on<A: Allocate + Drop>(
     text: &[u8],
 ) -> Result<Verdict, NoMemory>
     requires { length text.now ≤ MOST_LINES }
-    ensures { IfOk result (IsVerdict plant text.now) }
+    ensures { IfOk result (IsVerdict false plant text.now) }
 {
     let mut auditor = Auditor::start(alloc, plant, allocator)?;
     let mut rest = text;

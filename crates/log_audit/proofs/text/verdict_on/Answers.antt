@@ -1,5 +1,5 @@
 -- The lines so far and what is left are the text.
-use Rattle.std.proofs.Common.{◌≡◌, ◌∙◌, ℕ, List, [], ◌∷◌, ◌++◌, sym, subst, arith}
+use Rattle.std.proofs.Common.{◌≡◌, ◌∙◌, ℕ, List, [], ◌∷◌, ◌++◌, false, sym, subst, arith}
 use Rattle.plant_model.specs.declared.plant.Parts.{Parts}
 use Rattle.log_audit.specs.FirstBad.{text_of}
 use Rattle.log_audit.specs.Verdicts.{IsVerdict}
@@ -30,6 +30,6 @@ returns-then-is_empty g c =
     let whole : text_of lines ≡ c.args.text.now =
     nothing_left (text_of lines) c.loop-line.rest.now c.args.text.now (sym c.if-is_empty.ensures)
     held.read.2 in
-    subst (λ (plant : Parts). IsVerdict plant c.args.text.now c.finish.result) held.plant
-    (subst (λ (text : List ℕ). IsVerdict c.loop-line.auditor.core.plant text c.finish.result)
+    subst (λ (plant : Parts). IsVerdict false plant c.args.text.now c.finish.result) held.plant
+    (subst (λ (text : List ℕ). IsVerdict false c.loop-line.auditor.core.plant text c.finish.result)
     whole (c.finish.ensures lines held.read.1))
