@@ -34,7 +34,11 @@ def words() -> argparse.ArgumentParser:
     watch = kinds.add_parser(
         "watch", help="the text of dp replay: the demand, the losses, the alarms and the orders over time"
     )
-    for kind in (check, watch):
+    capability = kinds.add_parser(
+        "capability", help="the text of dp capability: a polar plot of the wind that all losses leave"
+    )
+    capability.add_argument("--plant", metavar="PLANT", help="the plant, for its name, which the text doesn't say")
+    for kind in (check, watch, capability):
         kind.add_argument(
             "file",
             metavar="FILE",
@@ -46,7 +50,7 @@ def words() -> argparse.ArgumentParser:
     report.add_argument("plant", metavar="PLANT", help="a plant file, or demo")
     for name, help_of in (("X", "kN ahead"), ("Y", "kN to starboard"), ("N", "kN·dm that turn the bow to starboard")):
         report.add_argument(name, help=help_of)
-    for kind in (plant, check, watch, report):
+    for kind in (plant, check, watch, capability, report):
         kind.add_argument("-o", metavar="OUT", dest="out", required=kind is not check, help="the file that is written")
     return parser
 
@@ -92,6 +96,13 @@ def draw_watch(given: argparse.Namespace) -> None:
     drawing.save(watch.picture(seen.name, history), given.out)
 
 
+def draw_capability(given: argparse.Namespace) -> None:
+    from . import capability, drawing
+
+    name = read_plant(given.plant).name if given.plant else None
+    drawing.save(capability.picture(capability.read_capability(text_of(given.file)), name), given.out)
+
+
 def make_report(given: argparse.Namespace) -> None:
     demand = [given.X, given.Y, given.N]
     is_demo = given.plant == "demo"
@@ -103,7 +114,13 @@ def make_report(given: argparse.Namespace) -> None:
     pathlib.Path(given.out).write_text(report.page(plant, text, command))
 
 
-KINDS = {"plant": draw_plant, "check": draw_check, "watch": draw_watch, "report": make_report}
+KINDS = {
+    "plant": draw_plant,
+    "check": draw_check,
+    "watch": draw_watch,
+    "capability": draw_capability,
+    "report": make_report,
+}
 
 
 def main(arguments: list[str] | None = None) -> int:

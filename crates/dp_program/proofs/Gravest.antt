@@ -9,7 +9,7 @@ use Rattle.dp_sessions.specs.Sessions.{GaveTooMany, GaveTooManyItems, MayEnd}
 use Rattle.dp_sessions.specs.declared.session.Ending.{Ending}
 use Rattle.dp_sessions.specs.declared.session.Ending.TheVariants.{End, Fault, Long, Full, Write}
 use Rattle.dp_sessions.proofs.Endings.{ShowEnding}
-use Rattle.dp_sessions.proofs.Faults.{all-two}
+use Rattle.dp_words.proofs.Faults.{all-two}
 use Rattle.watch_session.specs.Threads.{StandsForBoth, StandsForPart, graver}
 
 -- ---- two endings

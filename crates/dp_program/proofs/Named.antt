@@ -1,6 +1,7 @@
 -- What the program does with words of each form.
 use Rattle.std.proofs.Common.{◌≡◌, ℕ, List, [], ◌∷◌, Bool, true, false, Ok, Err, refl, sym, subst}
-use Rattle.std.proofs.Common.{ap, codes}
+use Rattle.std.proofs.Common.{◌∙◌, ap, codes}
+use Rattle.std.proofs.lemmas.Slice.Eq.{bytes_eq-Decides}
 use Rattle.dp_io.specs.Shown.{NoneFailed, Shown}
 use Rattle.plant_model.specs.declared.wrench.Wrench.{Wrench}
 use Rattle.dp_words.specs.Words.{form_of}
@@ -9,12 +10,13 @@ use Rattle.dp_words.specs.declared.status.RunStatus.{RunStatus}
 use Rattle.dp_words.specs.declared.status.RunStatus.TheVariants.{Usage}
 use Rattle.dp_words.proofs.Commands.{differ, names-it, no-other}
 use Rattle.sensor_vote.specs.Calls.{names_vote}
+use Rattle.capability_report.specs.Calls.{names_capability}
 use Rattle.dp_sessions.specs.Checks.{EndsFindings, names_check}
-use Rattle.dp_sessions.specs.Plants.{NamesNoFile}
+use Rattle.dp_words.specs.Plants.{NamesNoFile}
 use Rattle.dp_sessions.specs.Sessions.{EndsSession, IsUntouched, Passed, recorded}
 use Rattle.dp_sessions.proofs.Checked.{ends-usage}
 use Rattle.dp_sessions.proofs.Endings.{session-usage}
-use Rattle.dp_sessions.proofs.Faults.{all-one, all-two}
+use Rattle.dp_words.proofs.Faults.{all-one, all-two}
 use Rattle.watch_session.specs.Threads.{watched}
 use Rattle.dp_program.specs.Runs.{EndsElse, names_run, workers_of}
 
@@ -24,6 +26,22 @@ pub no-vote : (words : List (List ℕ)) (telegrams : ℕ) (report : Bool)
 no-vote [] telegrams report named is = absurd (cc)
 no-vote (command ∷ words) telegrams report named is =
     let yes = names-it command words (forms.Vote telegrams report) is in cc (yes, named)
+
+-- and likewise of a capability
+pub no-capability : (words : List (List ℕ)) (plant : ℕ) (demand : Wrench)
+    → names_capability words ≡ false → form_of words ≡ Ok (forms.Capability plant demand) → ⊥
+no-capability [] plant demand named is = absurd (cc)
+no-capability (command ∷ words) plant demand named is =
+    let yes = names-it command words (forms.Capability plant demand) is in cc (yes, named)
+
+-- words don't name both
+pub one-command : (words : List (List ℕ)) → names_vote words ≡ true
+    → names_capability words ≡ true → ⊥
+one-command [] vote capability = absurd (cc)
+one-command (command ∷ words) vote capability =
+    differ (codes "vote") (codes "capability") refl
+    (sym ((bytes_eq-Decides command (codes "vote")).0 vote)
+    ∙ (bytes_eq-Decides command (codes "capability")).0 capability)
 
 module _ {A B C : Type 0} (words : List (List ℕ)) (status : RunStatus) (first : Passed A)
     (second : Passed B) (third : Passed C) (out : Shown)

@@ -8,8 +8,9 @@ use Rattle.dp_words.specs.declared.form.Form.{Form}
 use Rattle.dp_words.specs.declared.form.Form.TheVariants as forms
 use Rattle.dp_words.specs.declared.status.RunStatus.{RunStatus}
 use Rattle.sensor_vote.specs.Calls.{names_vote}
+use Rattle.capability_report.specs.Calls.{EndsCapabilityCall, names_capability}
 use Rattle.dp_sessions.specs.Checks.{EndsFindings, names_check}
-use Rattle.dp_sessions.specs.Plants.{NamesNoFile}
+use Rattle.dp_words.specs.Plants.{NamesNoFile}
 use Rattle.dp_sessions.specs.Sessions.{EndsSession, IsUntouched, Passed, recorded}
 use Rattle.dp_sessions.specs.Votes.{EndsVoting}
 use Rattle.watch_session.specs.Threads.{watched}
@@ -33,9 +34,10 @@ abbrev pub workers_of : Result Form ℕ → ℕ
 workers_of (Ok (forms.Run plant sensors operators workers)) = workers
 workers_of _ = 0
 
--- How the program ends with this status where it doesn't vote: as a session over two streams where
--- the first word names it, as a check where that does, and else as a session over recorded telegrams.
--- A source that isn't the command's is as it was, and so is that of the plant where no word names it.
+-- How the program ends with this status where it neither votes nor tells a capability: as a session
+-- over two streams where the first word names it, as a check where that does, and else as a session
+-- over recorded telegrams. A source that isn't the command's is as it was, and so is that of the
+-- plant where no word names it.
 pub record EndsElse {A B C : Type 0} (words : List (List ℕ)) (status : RunStatus)
     (first : Passed A) (second : Passed B) (third : Passed C) (out : Shown) : Type 0 where
   pub ran : names_run words ≡ true
@@ -48,12 +50,21 @@ pub record EndsElse {A B C : Type 0} (words : List (List ℕ)) (status : RunStat
   pub untouched : names_run words ≡ false → IsUntouched third
   pub unread : NamesNoFile words → IsUntouched first
 
+-- A capability of the plant. The other sources are as they were.
+pub record EndsMeasuring {A B C : Type 0} (words : List (List ℕ)) (status : RunStatus)
+    (run : Run A B C) : Type 0 where
+  pub capability : EndsCapabilityCall words status run.first.before run.first.after run.first.shown
+      run.out run.err
+  pub second : IsUntouched run.second
+  pub third : IsUntouched run.third
+
 -- How the program ends with this status: as a vote where the first word names it, with the operators'
--- source as it was, else as above. The line is told.
+-- source as it was, as a capability where that does, else as above. The line is told.
 pub record EndsRun {A B C : Type 0} (words : List (List ℕ)) (status : RunStatus) (run : Run A B C)
     : Type 0 where
   pub voted : names_vote words ≡ true
       → EndsVoting words status run.first run.second run.out run.err × IsUntouched run.third
-  pub ended : names_vote words ≡ false
+  pub measured : names_capability words ≡ true → EndsMeasuring words status run
+  pub ended : names_vote words ≡ false → names_capability words ≡ false
       → EndsElse words status run.first run.second run.third run.out
   pub told : IsTold status run.err

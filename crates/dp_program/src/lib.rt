@@ -1,5 +1,5 @@
 //! All that the program does: the call that chooses, by its words, between a session over two streams, a session over
-//! recorded telegrams, a check and a vote.
+//! recorded telegrams, a check, a vote and a capability.
 #![tactic(auto)]
 
 mod program;

@@ -1,7 +1,7 @@
 //! A session over two streams, of the plant that a word names.
 ghost use Rattle.std.specs.Prelude.{◌≡◌, ◌≤◌, ℕ, List, codes};
 ghost use Rattle.dp_io.specs.Shown.{reading, writing};
-ghost use Rattle.dp_sessions.specs.Plants.{HasPlant};
+ghost use Rattle.dp_words.specs.Plants.{HasPlant};
 ghost use Rattle.dp_sessions.specs.Sessions.{EndsSession, passed};
 ghost use Rattle.watch_session.specs.Threads.{watched};
 

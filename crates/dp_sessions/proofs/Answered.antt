@@ -27,12 +27,12 @@ use Rattle.dp_sessions.specs.declared.session.Ending.TheVariants.{Write}
 use Rattle.dp_io.specs.Shown.{NoneFailed, Shown, TookPart}
 use Rattle.log_text.specs.Commands.{command_text}
 use Rattle.dp_sessions.proofs.Begun.{begun-entry}
-use Rattle.dp_sessions.proofs.Given.{part-whole}
+use Rattle.dp_words.proofs.Parts.{part-whole}
 use Rattle.dp_sessions.proofs.Blocks.{event-asked}
 use Rattle.dp_sessions.proofs.Counted.{keeps-telegram}
 use Rattle.dp_sessions.proofs.Rounds.{current_after, none_shown_after}
 use Rattle.dp_sessions.proofs.Taken.{grew-none}
-use Rattle.dp_sessions.proofs.Texted.{showed}
+use Rattle.dp_words.proofs.Texted.{showed}
 
 -- ---- replies
 

@@ -34,7 +34,7 @@ use Rattle.dp_sessions.specs.declared.session.Ending.TheVariants.{End, Fault, Lo
 use Rattle.dp_sessions.proofs.Blocks.{silent-followed, silent-verdicts}
 use Rattle.dp_sessions.proofs.Fronts.{beginning-self, beginning-trans, front-begins, items-begin}
 use Rattle.dp_sessions.proofs.Fronts.{items-front}
-use Rattle.dp_sessions.proofs.Given.{part-back, part-whole}
+use Rattle.dp_words.proofs.Parts.{part-back, part-whole}
 
 -- ---- what callers but the session ask
 

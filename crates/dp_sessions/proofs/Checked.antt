@@ -10,18 +10,18 @@ use Rattle.dp_words.specs.PlantSource.{IsPlantError, PlantSays}
 use Rattle.dp_words.proofs.Commands.{check-other, differ, no-other}
 use Rattle.dp_words.specs.Words.{form_of}
 use Rattle.dp_words.specs.declared.form.Form.{Form}
-use Rattle.dp_words.specs.declared.form.Form.TheVariants.{Check, Replay, Run, Vote}
+use Rattle.dp_words.specs.declared.form.Form.TheVariants.{Capability, Check, Replay, Run, Vote}
 use Rattle.dp_words.specs.declared.status.RunStatus.{RunStatus}
 use Rattle.dp_words.specs.declared.status.RunStatus.TheVariants.{Clear, LossFound, NoMemory}
 use Rattle.dp_words.specs.declared.status.RunStatus.TheVariants.{Usage, WriteFault}
 use Rattle.dp_sessions.specs.Checks.{AsksCheck, CheckOf, EndsFindings, IsSo, TookFindings}
 use Rattle.dp_sessions.specs.Checks.{TookSomeFindings, names_check}
-use Rattle.dp_sessions.specs.Plants.{HasPlant, HasPlantCause}
-use Rattle.dp_sessions.specs.Writing.{IsWriteError}
+use Rattle.dp_words.specs.Plants.{HasPlant, HasPlantCause}
+use Rattle.dp_words.specs.Writing.{IsWriteError}
 use Rattle.dp_sessions.proofs.Endings.{stopped-else}
-use Rattle.dp_sessions.proofs.Faults.{all-one, tells-memory, tells-same, tells-write}
-use Rattle.dp_sessions.proofs.Plants.{IsElse, missed-none, plant-found, plant-missed, plant-unasked}
-use Rattle.dp_sessions.proofs.Plants.{unasked-none}
+use Rattle.dp_words.proofs.Faults.{all-one, tells-memory, tells-same, tells-write}
+use Rattle.dp_words.proofs.Plants.{IsElse, missed-none, plant-found, plant-missed, plant-unasked}
+use Rattle.dp_words.proofs.Plants.{unasked-none}
 
 -- ---- the words
 
@@ -48,6 +48,9 @@ other-words (command ∷ words) (Ok (Replay plant telegrams)) named is other =
 other-words (command ∷ words) (Ok (Vote telegrams report)) named is other =
     absurd (no-other command words (codes "check") (Vote telegrams report) named
     (differ (codes "check") (codes "vote") refl) (sym is))
+other-words (command ∷ words) (Ok (Capability plant demand)) named is other =
+    absurd (no-other command words (codes "check") (Capability plant demand) named
+    (differ (codes "check") (codes "capability") refl) (sym is))
 other-words (command ∷ words) (Err kind) named is other =
     sym is ∙ ap Err (check-kind (command ∷ words) kind named (sym is))
 

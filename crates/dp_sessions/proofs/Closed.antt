@@ -36,7 +36,7 @@ use Rattle.dp_sessions.specs.Steps.{AddsVerdicts, BeginsTaking, NoneIsShown, Tak
 use Rattle.dp_sessions.specs.Steps.{WroteCommands}
 use Rattle.dp_sessions.proofs.Begun.{asked-append, begins-taken}
 use Rattle.dp_sessions.proofs.Counts.{events-counted}
-use Rattle.dp_sessions.proofs.Given.{part-front}
+use Rattle.dp_words.proofs.Parts.{part-front}
 
 -- ---- the opening
 

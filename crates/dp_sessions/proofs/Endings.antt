@@ -21,20 +21,20 @@ use Rattle.dp_words.specs.declared.form.Form.{Form}
 use Rattle.dp_words.specs.declared.status.RunStatus.{RunStatus}
 use Rattle.dp_words.specs.declared.status.RunStatus.TheVariants.{Clear, Usage, Plant, WriteFault}
 use Rattle.dp_words.specs.declared.status.RunStatus.TheVariants.{LossFound, NoMemory, ReadFault}
-use Rattle.dp_sessions.specs.Plants.{HasPlant, WordsSay}
+use Rattle.dp_words.specs.Plants.{HasPlant, WordsSay}
 use Rattle.dp_sessions.specs.Sessions.{EndsSession, GaveItems, GaveTooMany, GaveTooManyItems}
 use Rattle.dp_sessions.specs.Sessions.{HasCause, HasHistory, IsComplete, IsUnbegun, MayEnd}
 use Rattle.dp_sessions.specs.Sessions.{StandsForStream, Streams, TellFew, TellsItems, Together}
 use Rattle.dp_sessions.specs.Sessions.{WritesBegun, WritesPart, WritesWhole, status_of}
 use Rattle.dp_sessions.specs.Steps.{GaveManyItems}
-use Rattle.dp_sessions.specs.Writing.{IsWriteError}
+use Rattle.dp_words.specs.Writing.{IsWriteError}
 use Rattle.dp_sessions.specs.declared.session.Ending.{Ending}
 use Rattle.dp_sessions.specs.declared.session.Ending.TheVariants.{End, Fault, Long, Full, Write}
-use Rattle.dp_sessions.proofs.Faults.{all-one, any-one, tells-ended, tells-memory, tells-same}
-use Rattle.dp_sessions.proofs.Faults.{tells-write}
+use Rattle.dp_words.proofs.Faults.{all-one, any-one, tells-memory, tells-same, tells-write}
+use Rattle.dp_sessions.proofs.Faults.{tells-ended}
 use Rattle.dp_sessions.proofs.Fronts.{items-longer}
-use Rattle.dp_sessions.proofs.Plants.{IsElse, missed-none, plant-found, plant-missed, plant-unasked}
-use Rattle.dp_sessions.proofs.Plants.{unasked-none}
+use Rattle.dp_words.proofs.Plants.{IsElse, missed-none, plant-found, plant-missed, plant-unasked}
+use Rattle.dp_words.proofs.Plants.{unasked-none}
 
 -- the statuses of two endings differ where they do
 status_of-injective : (a b : Ending) (lost other : Bool) → status_of a lost ≡ status_of b other

@@ -12,10 +12,8 @@ pub mod Fronts
 pub mod Given
 pub mod Logs
 pub mod Losses
-pub mod Plants
 pub mod Published
 pub mod Rounds
 pub mod Streams
 pub mod Taken
-pub mod Texted
 pub mod Votes

@@ -7,7 +7,7 @@ use Rattle.std.proofs.lemmas.List.{append-nil, take_more, take-append-drop}
 use Rattle.dp_io.specs.Streams.{Grew}
 use Rattle.dp_io.specs.Shown.{GrewInPart}
 use Rattle.dp_io.proofs.Grown.{Grew-append}
-use Rattle.dp_sessions.proofs.Given.{part-back, part-front, part-whole}
+use Rattle.dp_words.proofs.Parts.{part-back, part-front, part-whole}
 
 -- the lines of one element more
 pub flat_map-more : {A : Type 0} (f : A → List ℕ) (xs : List A) (i : ℕ) (x : A) → i < length xs

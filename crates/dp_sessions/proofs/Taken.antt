@@ -17,7 +17,7 @@ use Rattle.dp_sessions.specs.Sessions.{StopsAtCommand}
 use Rattle.dp_sessions.specs.Sessions.{entries_of}
 use Rattle.dp_sessions.specs.Steps.{AddsBlock, HasAnswered, IsFilled, IsUnwritten, TakesBytes, TakesEnd}
 use Rattle.dp_sessions.specs.Steps.{TakesItem}
-use Rattle.dp_sessions.specs.Writing.{TookFront}
+use Rattle.dp_words.specs.Writing.{TookFront}
 use Rattle.dp_sessions.specs.declared.session.Ending.{Ending}
 use Rattle.dp_sessions.specs.declared.session.Ending.TheVariants.{End, Fault, Long, Full, Write}
 use Rattle.dp_sessions.proofs.Blocks.{answers-more, commands-more, commands-opening, events-answered}

@@ -2,7 +2,7 @@
 use Rattle.std.proofs.Common.{◌≡◌, ℕ, List, Bool, Some, None, Ok, ap}
 use Rattle.dp_words.specs.Words.{form_of, plant_place}
 use Rattle.dp_words.specs.declared.form.Form.{Form}
-use Rattle.dp_words.specs.declared.form.Form.TheVariants.{Check, Replay, Run, Vote}
+use Rattle.dp_words.specs.declared.form.Form.TheVariants.{Capability, Check, Replay, Run, Vote}
 use Rattle.sensor_vote.specs.Calls.{AsksVote}
 
 -- words of a form with no plant ask for a vote
@@ -12,6 +12,7 @@ asks-vote words (Vote telegrams report) is none = (report, (telegrams, is))
 asks-vote words (Run plant sensors operators workers) is none = absurd (cc)
 asks-vote words (Replay plant telegrams) is none = absurd (cc)
 asks-vote words (Check plant demand json) is none = absurd (cc)
+asks-vote words (Capability plant demand) is none = absurd (cc)
 
 -- and those of a form with one don't
 pub asks-none : (words : List (List ℕ)) (form : Form) (place : ℕ) (report : Bool)

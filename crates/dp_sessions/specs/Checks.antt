@@ -26,7 +26,7 @@ use Rattle.dp_words.specs.Words.{form_of}
 use Rattle.dp_words.specs.declared.form.Form.TheVariants.{Check}
 use Rattle.dp_words.specs.declared.status.RunStatus.{RunStatus}
 use Rattle.dp_words.specs.declared.status.RunStatus.TheVariants as statuses
-use Rattle.dp_sessions.specs.Plants.{HasAPlant, HasPlantCause, NamesNoFile}
+use Rattle.dp_words.specs.Plants.{HasAPlant, HasPlantCause, NamesNoFile}
 use Rattle.dp_sessions.specs.Sessions.{IsUntouched, Passed}
 
 -- ---- findings

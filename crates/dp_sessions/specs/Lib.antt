@@ -1,5 +1,4 @@
 pub mod Checks
-pub mod Plants
 pub mod Sessions
 pub mod Steps
 pub mod Votes

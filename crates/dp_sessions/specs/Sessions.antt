@@ -35,7 +35,7 @@ use Rattle.dp_words.specs.Faults.{TellsFaults}
 use Rattle.dp_words.specs.Statuses.{IsTold}
 use Rattle.log_text.specs.Commands.{command_text, commands_text}
 use Rattle.log_text.specs.Texts.{log_text, report_text}
-use Rattle.dp_sessions.specs.Plants.{HasAPlant, HasPlantCause, NamesNoFile, WordsSay}
+use Rattle.dp_words.specs.Plants.{HasAPlant, HasPlantCause, NamesNoFile, WordsSay}
 
 -- ---- the history of a stream
 

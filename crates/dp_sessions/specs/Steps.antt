@@ -16,7 +16,7 @@ use Rattle.dp_sessions.specs.Sessions.{AnswersItems, AreAnswered, AreCurrent, Ar
 use Rattle.dp_sessions.specs.Sessions.{AreOfSession, AreVerdictsOn, Block, GaveItems, IsBeginning}
 use Rattle.dp_sessions.specs.Sessions.{IsFollowed, IsFront, IsVerdictOn, MayEnd, StopsAtCommand}
 use Rattle.dp_sessions.specs.Sessions.{asked, asked_for, asked_of_streams, entries_of, events_in}
-use Rattle.dp_sessions.specs.Writing.{TookFront}
+use Rattle.dp_words.specs.Writing.{TookFront}
 use Rattle.dp_sessions.specs.declared.session.Caller.{Caller}
 use Rattle.dp_sessions.specs.declared.session.Caller.TheVariants.{ControlLoop, Operators, Session}
 use Rattle.dp_sessions.specs.declared.session.Ending.{Ending}

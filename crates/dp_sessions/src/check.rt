@@ -4,14 +4,13 @@ ghost use Rattle.plant_model.specs.Versions.{IsDemand};
 ghost use Rattle.dp_io.specs.Shown.{reading, writing};
 ghost use Rattle.dp_sessions.specs.Checks.{AsksCheck, EndsCheck, EndsFindings, IsSo, TookFindings};
 ghost use Rattle.dp_sessions.specs.Checks.{TookSomeFindings, findings_text, names_check};
-ghost use Rattle.dp_sessions.specs.Plants.{NamesNoFile};
+ghost use Rattle.dp_words.specs.Plants.{NamesNoFile};
 ghost use Rattle.dp_sessions.specs.Sessions.{passed};
-ghost use Rattle.dp_sessions.specs.Writing.{EndsWriting};
+ghost use Rattle.dp_words.specs.Writing.{EndsWriting};
 
 use crate::findings::{findings_of, has_lost};
-use crate::writing::send_lines;
 use dp_io::{Sink, Source};
-use dp_words::{Form, RunStatus, WordsFault, form_of, plant_from, tell};
+use dp_words::{Form, RunStatus, WordsFault, form_of, plant_from, send_lines, tell};
 use log_text::{Findings, check_json, check_text};
 use no_memory::NoMemory;
 use plant_model::plant::Plant;

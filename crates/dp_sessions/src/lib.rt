@@ -6,7 +6,6 @@ mod check;
 mod findings;
 mod replay;
 mod session;
-mod writing;
 
 pub use check::{check as check_demand, check_call};
 pub use replay::{replay as replay_telegrams, replay_call};

@@ -1,7 +1,7 @@
 //! The top call of `replay`.
 ghost use Rattle.std.specs.Prelude.{◌≡◌, ℕ, List, Bool, codes, map, string_bytes};
 ghost use Rattle.dp_io.specs.Shown.{reading, writing};
-ghost use Rattle.dp_sessions.specs.Plants.{HasPlant, NamesNoFile};
+ghost use Rattle.dp_words.specs.Plants.{HasPlant, NamesNoFile};
 ghost use Rattle.dp_sessions.specs.Sessions.{EndsSession, passed, recorded};
 ghost use Rattle.dp_sessions.specs.Votes.{AskNoVote, EndsReplay, RefusesVote};
 ghost use Rattle.sensor_vote.specs.Calls.{AsksVote};

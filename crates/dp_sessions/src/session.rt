@@ -14,14 +14,14 @@ ghost use Rattle.dp_sessions.specs.Steps.{AddsSilent, AddsVerdict, AddsVerdicts,
 ghost use Rattle.dp_sessions.specs.Steps.{BeginsEnd, BeginsItem, BeginsTaking, GaveManyItems};
 ghost use Rattle.dp_sessions.specs.Steps.{HasAnswered, IsRunning, NoneIsShown, TakesBytes, TakesEnd};
 ghost use Rattle.dp_sessions.specs.Steps.{TakesItem, TakesStream, number_of};
-ghost use Rattle.dp_sessions.specs.Writing.{EndsText, EndsWriting, WritesFrames};
+ghost use Rattle.dp_words.specs.Writing.{EndsText, EndsWriting};
+ghost use Rattle.dp_sessions.specs.Writing.{WritesFrames};
 ghost use Rattle.log_text.specs.Commands.{command_text};
 ghost use Rattle.log_text.specs.Texts.{log_text, report_text};
 
-use crate::writing::send_lines;
 use allocator::Direct;
 use dp_io::{Sink, Source, send_all};
-use dp_words::RunStatus;
+use dp_words::{RunStatus, send_lines};
 use feasibility::analyse;
 use frame::{Framer, Item};
 use no_memory::NoMemory;

@@ -7,9 +7,10 @@ use Rattle.std.specs.Str.{bytes_eq}
 use Rattle.plant_model.specs.declared.wrench.Wrench.{Wrench}
 use Rattle.telegram.specs.declared.telegram.Reject.{Reject}
 use Rattle.dp_words.specs.declared.form.Form.{Form}
-use Rattle.dp_words.specs.declared.form.Form.TheVariants.{Check, Replay, Run, Vote}
+use Rattle.dp_words.specs.declared.form.Form.TheVariants.{Capability, Check, Replay, Run, Vote}
 use Rattle.dp_words.specs.declared.form.WordsFault.{WordsFault}
 use Rattle.dp_words.specs.declared.form.WordsFault.TheVariants.{OtherWords, UnknownCommand}
+use Rattle.dp_words.specs.Words.{capability_form, capability_of}
 use Rattle.dp_words.specs.Words.{Placed, asks_for, check_form, check_of, demand_of, form_of}
 use Rattle.dp_words.specs.Words.{is_dash, kind_of, numbered, options, placed, places, replay_form}
 use Rattle.dp_words.specs.Words.{run_at, run_form, run_of, run_placed, run_valued, value_in}
@@ -21,6 +22,7 @@ command_of (Run plant sensors operators workers) = codes "run"
 command_of (Replay plant telegrams) = codes "replay"
 command_of (Check plant demand json) = codes "check"
 command_of (Vote telegrams report) = codes "vote"
+command_of (Capability plant demand) = codes "capability"
 
 -- a form of this command, or none for the words after the first
 abbrev pub IsOf : List ℕ → Result Form WordsFault → Type 0
@@ -113,26 +115,47 @@ vote-is chosen [] = refl
 vote-is chosen (a ∷ []) = vote-of a.0 (asks_for (codes "--report") chosen)
 vote-is chosen (a ∷ b ∷ rest) = refl
 
+capability-of : (plant : ℕ) (demand : Result Wrench Reject) (chosen : List Placed)
+    → IsOf (codes "capability") (capability_of plant demand chosen)
+capability-of plant (Ok demand) [] = refl
+capability-of plant (Ok demand) (option ∷ more) = refl
+capability-of plant (Err reject) chosen = refl
+
+capability-is : (chosen all : List Placed) → IsOf (codes "capability") (capability_form chosen all)
+capability-is chosen [] = refl
+capability-is chosen (a ∷ []) = refl
+capability-is chosen (a ∷ b ∷ []) = refl
+capability-is chosen (a ∷ b ∷ c ∷ []) = refl
+capability-is chosen (a ∷ b ∷ c ∷ d ∷ []) = capability-of a.0 (demand_of b.1 c.1 d.1) chosen
+capability-is chosen (a ∷ b ∷ c ∷ d ∷ e ∷ rest) = refl
+
 -- ---- all words
 
 -- the form is that of the command whose word the first is
-named-where : (command : List ℕ) (run replay check vote : Bool) (chosen all : List Placed)
-    (form : Form) → (run ≡ true → command ≡ codes "run") → (replay ≡ true → command ≡ codes "replay")
-    → (check ≡ true → command ≡ codes "check") → (vote ≡ true → command ≡ codes "vote")
+named-where : (command : List ℕ) (run replay check vote capability : Bool)
+    (chosen all : List Placed) (form : Form) → (run ≡ true → command ≡ codes "run")
+    → (replay ≡ true → command ≡ codes "replay") → (check ≡ true → command ≡ codes "check")
+    → (vote ≡ true → command ≡ codes "vote")
+    → (capability ≡ true → command ≡ codes "capability")
     → (if run then run_form chosen all
     else (if replay then replay_form chosen all
     else (if check then check_form chosen all
-    else (if vote then vote_form chosen all else Err UnknownCommand)))) ≡ Ok form
+    else (if vote then vote_form chosen all
+    else (if capability then capability_form chosen all else Err UnknownCommand)))))
+    ≡ Ok form
     → command ≡ command_of form
-named-where command true replay check vote chosen all form one two three four is =
+named-where command true replay check vote capability chosen all form one two three four five is =
     one refl ∙ sym (subst (IsOf (codes "run")) is (run-is chosen all))
-named-where command false true check vote chosen all form one two three four is =
+named-where command false true check vote capability chosen all form one two three four five is =
     two refl ∙ sym (subst (IsOf (codes "replay")) is (replay-is chosen all))
-named-where command false false true vote chosen all form one two three four is =
+named-where command false false true vote capability chosen all form one two three four five is =
     three refl ∙ sym (subst (IsOf (codes "check")) is (check-is chosen all))
-named-where command false false false true chosen all form one two three four is =
+named-where command false false false true capability chosen all form one two three four five is =
     four refl ∙ sym (subst (IsOf (codes "vote")) is (vote-is chosen all))
-named-where command false false false false chosen all form one two three four is = absurd (cc)
+named-where command false false false false true chosen all form one two three four five is =
+    five refl ∙ sym (subst (IsOf (codes "capability")) is (capability-is chosen all))
+named-where command false false false false false chosen all form one two three four five is =
+    absurd (cc)
 
 found : (read : Result Form WordsFault) (form : Form) → numbered read ≡ Ok form → read ≡ Ok form
 found (Ok other) form is = cc
@@ -144,9 +167,10 @@ first-is command words form is =
     let reads : (name : List ℕ) → bytes_eq command name ≡ true → command ≡ name =
     λ name e. (bytes_eq-Decides command name).0 e in
     named-where command (bytes_eq command (codes "run")) (bytes_eq command (codes "replay"))
-    (bytes_eq command (codes "check")) (bytes_eq command (codes "vote")) (options (placed words))
-    (places (placed words)) form (reads (codes "run")) (reads (codes "replay"))
-    (reads (codes "check")) (reads (codes "vote"))
+    (bytes_eq command (codes "check")) (bytes_eq command (codes "vote"))
+    (bytes_eq command (codes "capability")) (options (placed words)) (places (placed words)) form
+    (reads (codes "run")) (reads (codes "replay")) (reads (codes "check")) (reads (codes "vote"))
+    (reads (codes "capability"))
     (found (written_form (command ∷ words)) form is)
 
 -- two words of commands
@@ -191,3 +215,15 @@ vote-other command words kind named is =
     subst (λ (c : List ℕ). IsOf (codes "vote") (written_form (c ∷ words))) (sym same)
     (vote-is (options (placed words)) (places (placed words))) in
     other-number (codes "vote") (written_form (command ∷ words)) kind of is
+
+-- and for a capability
+pub capability-other : (command : List ℕ) (words : List (List ℕ)) (kind : ℕ)
+    → bytes_eq command (codes "capability") ≡ true → form_of (command ∷ words) ≡ Err kind
+    → kind ≡ 3
+capability-other command words kind named is =
+    let same : command ≡ codes "capability" =
+    (bytes_eq-Decides command (codes "capability")).0 named in
+    let of : IsOf (codes "capability") (written_form (command ∷ words)) =
+    subst (λ (c : List ℕ). IsOf (codes "capability") (written_form (c ∷ words))) (sym same)
+    (capability-is (options (placed words)) (places (placed words))) in
+    other-number (codes "capability") (written_form (command ∷ words)) kind of is

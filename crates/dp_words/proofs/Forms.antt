@@ -1,5 +1,5 @@
 -- What the kept options and places say of a form.
-use Rattle.std.proofs.Common.{◌≡◌, ◌≢◌, ℕ, suc, ◌+◌, ◌<◌, List, [], ◌∷◌}
+use Rattle.std.proofs.Common.{◌≡◌, ◌≢◌, ℕ, suc, ◌+◌, ◌<◌, ◌≤◌, List, [], ◌∷◌}
 use Rattle.std.proofs.Common.{length, take, Bool, true, false}
 use Rattle.std.proofs.Common.{◌==◌, ◌||◌, not, ◌&&◌, if◌then◌else◌, Option, Some, None, Result}
 use Rattle.std.proofs.Common.{Ok, Err, refl, sym}
@@ -23,6 +23,7 @@ use Rattle.dp_words.specs.Words.{replay_form, check_form, check_of, demand_of, a
 use Rattle.dp_words.specs.Words.{written_form, NamesBelow, vote_form, vote_of}
 use Rattle.dp_words.specs.Words.{run_at, run_form, run_of, run_placed, run_valued}
 use Rattle.dp_words.specs.Words.{value_in, workers_in, workers_of}
+use Rattle.dp_words.specs.Words.{capability_form, capability_of}
 
 -- ---- the kept options and places are enough
 
@@ -88,6 +89,50 @@ vote_kept all_options [] = refl
 vote_kept all_options (telegrams ∷ []) =
     ap (vote_of telegrams.0) (option_kept (codes "--report") all_options)
 vote_kept all_options (telegrams ∷ more ∷ rest) = refl
+
+no_option_kept : (plant : ℕ) (demand : Result Wrench Reject) (all : List Placed)
+    → capability_of plant demand (take KEPT_OPTIONS all) ≡ capability_of plant demand all
+no_option_kept plant (Ok demand) [] = refl
+no_option_kept plant (Ok demand) (option ∷ more) = refl
+no_option_kept plant (Err reject) all = refl
+
+pub capability_kept : (all_options all : List Placed)
+    → capability_form (take KEPT_OPTIONS all_options) (take KEPT_PLACES all)
+    ≡ capability_form all_options all
+capability_kept all_options [] = refl
+capability_kept all_options (plant ∷ []) = refl
+capability_kept all_options (plant ∷ x ∷ []) = refl
+capability_kept all_options (plant ∷ x ∷ y ∷ []) = refl
+capability_kept all_options (plant ∷ x ∷ y ∷ n ∷ []) =
+    no_option_kept plant.0 (demand_of x.1 y.1 n.1) all_options
+capability_kept all_options (plant ∷ x ∷ y ∷ n ∷ more ∷ rest) = refl
+
+-- another count of places than four is no form of `capability`
+pub no_capability_unless_four : (all_options all : List Placed) → length all ≢ 4
+    → Err OtherWords ≡ capability_form all_options all
+no_capability_unless_four all_options [] other = refl
+no_capability_unless_four all_options (plant ∷ []) other = refl
+no_capability_unless_four all_options (plant ∷ x ∷ []) other = refl
+no_capability_unless_four all_options (plant ∷ x ∷ y ∷ []) other = refl
+no_capability_unless_four all_options (plant ∷ x ∷ y ∷ n ∷ []) other = absurd (other refl)
+no_capability_unless_four all_options (plant ∷ x ∷ y ∷ n ∷ more ∷ rest) other = refl
+
+no_capability_of : (plant : ℕ) (demand : Result Wrench Reject) (all : List Placed)
+    → 1 ≤ length all → Err OtherWords ≡ capability_of plant demand all
+no_capability_of plant (Ok demand) [] some = absurd (omega (arith, some))
+no_capability_of plant (Ok demand) (option ∷ more) some = refl
+no_capability_of plant (Err reject) all some = refl
+
+-- nor is any option
+pub no_capability_with_options : (all_options all : List Placed) → 1 ≤ length all_options
+    → Err OtherWords ≡ capability_form all_options all
+no_capability_with_options all_options [] some = refl
+no_capability_with_options all_options (plant ∷ []) some = refl
+no_capability_with_options all_options (plant ∷ x ∷ []) some = refl
+no_capability_with_options all_options (plant ∷ x ∷ y ∷ []) some = refl
+no_capability_with_options all_options (plant ∷ x ∷ y ∷ n ∷ []) some =
+    no_capability_of plant.0 (demand_of x.1 y.1 n.1) all_options some
+no_capability_with_options all_options (plant ∷ x ∷ y ∷ n ∷ more ∷ rest) some = refl
 
 -- another count of places than four is no form
 pub error_unless_four : (all_options all : List Placed) → length all ≢ 4
@@ -261,22 +306,43 @@ run_below count (option ∷ []) all below = by (bytes_eq option.1 (codes "--work
     by false = run_placed_below count (workers_in (value_in option.1)) all below
 run_below count (option ∷ more ∷ rest) all below = tt
 
-command_below : (count : ℕ) (all_options all : List Placed) (run replay check vote : Bool)
+capability_of_below : (count plant : ℕ) (demand : Result Wrench Reject) (all : List Placed)
+    → plant < count → IfOk (capability_of plant demand all) (λ form. NamesBelow form count)
+capability_of_below count plant (Ok demand) [] below = below
+capability_of_below count plant (Ok demand) (option ∷ more) below = tt
+capability_of_below count plant (Err reject) all below = tt
+
+capability_below : (count : ℕ) (all_options all : List Placed) → All (IsBelow count) all
+    → IfOk (capability_form all_options all) (λ form. NamesBelow form count)
+capability_below count all_options [] below = tt
+capability_below count all_options (plant ∷ []) below = tt
+capability_below count all_options (plant ∷ x ∷ []) below = tt
+capability_below count all_options (plant ∷ x ∷ y ∷ []) below = tt
+capability_below count all_options (plant ∷ x ∷ y ∷ n ∷ []) below =
+    capability_of_below count plant.0 (demand_of x.1 y.1 n.1) all_options
+    (below 0 plant (omega arith))
+capability_below count all_options (plant ∷ x ∷ y ∷ n ∷ more ∷ rest) below = tt
+
+command_below : (count : ℕ) (all_options all : List Placed)
+    (run replay check vote capability : Bool)
     → All (IsBelow count) all
     → IfOk {E = WordsFault} (if run then run_form all_options all
     else (if replay then replay_form all_options all
     else (if check then check_form all_options all
-    else (if vote then vote_form all_options all else Err UnknownCommand))))
+    else (if vote then vote_form all_options all
+    else (if capability then capability_form all_options all else Err UnknownCommand)))))
     (λ form. NamesBelow form count)
-command_below count all_options all true replay check vote below =
+command_below count all_options all true replay check vote capability below =
     run_below count all_options all below
-command_below count all_options all false true check vote below =
+command_below count all_options all false true check vote capability below =
     replay_below count all_options all below
-command_below count all_options all false false true vote below =
+command_below count all_options all false false true vote capability below =
     check_below count all_options all below
-command_below count all_options all false false false true below =
+command_below count all_options all false false false true capability below =
     vote_below count all_options all below
-command_below count all_options all false false false false below = tt
+command_below count all_options all false false false false true below =
+    capability_below count all_options all below
+command_below count all_options all false false false false false below = tt
 
 -- the places of a form are among the words
 pub names_below : (words : List (List ℕ))
@@ -288,6 +354,7 @@ names_below (command ∷ words) =
     (command_below (length words + 1) (options (placed words)) (places (placed words))
     (bytes_eq command (codes "run")) (bytes_eq command (codes "replay"))
     (bytes_eq command (codes "check")) (bytes_eq command (codes "vote"))
+    (bytes_eq command (codes "capability"))
     (places_below (length words + 1) (placed words) (placed_below words)))
 
 pub names_of : {X : Type 0} (f : X → List ℕ) (words : List X) (form : Result Form WordsFault)
@@ -354,5 +421,19 @@ pub form_of_vote : {X : Type 0} (f : X → List ℕ) (words rest : List X) (comm
 form_of_vote f words rest command name kept_options kept split named is options_are places_are =
     ap₂ vote_form options_are places_are
     ∙ vote_kept (options (placed (map f rest))) (places (placed (map f rest)))
+    ∙ ap (λ text. written_form (text ∷ map f rest)) (sym is)
+    ∙ command-is f words rest command name split named
+
+-- `capability` likewise
+pub form_of_capability : {X : Type 0} (f : X → List ℕ) (words rest : List X) (command : X)
+    (name : List ℕ) (kept_options kept : List Placed)
+    → words ≡ command ∷ rest → name ≡ f command → name ≡ codes "capability"
+    → kept_options ≡ take KEPT_OPTIONS (options (placed (map f rest)))
+    → kept ≡ take KEPT_PLACES (places (placed (map f rest)))
+    → capability_form kept_options kept ≡ written_form (map f words)
+form_of_capability f words rest command name kept_options kept split named is options_are
+    places_are =
+    ap₂ capability_form options_are places_are
+    ∙ capability_kept (options (placed (map f rest))) (places (placed (map f rest)))
     ∙ ap (λ text. written_form (text ∷ map f rest)) (sym is)
     ∙ command-is f words rest command name split named

@@ -12,7 +12,7 @@ use Rattle.plant_model.specs.declared.wrench.Wrench.{Wrench}
 use Rattle.telegram.specs.Telegrams.{◌>>=◌, within_of}
 use Rattle.telegram.specs.declared.telegram.Reject.{Reject}
 use Rattle.dp_words.specs.declared.form.Form.{Form}
-use Rattle.dp_words.specs.declared.form.Form.TheVariants.{Check, Replay, Run, Vote}
+use Rattle.dp_words.specs.declared.form.Form.TheVariants.{Capability, Check, Replay, Run, Vote}
 use Rattle.dp_words.specs.declared.form.WordsFault.{WordsFault}
 use Rattle.dp_words.specs.declared.form.WordsFault.TheVariants.{NoWord, UnknownCommand, OtherWords}
 
@@ -168,6 +168,22 @@ vote_form options [] = Err OtherWords
 vote_form options (telegrams ∷ []) = vote_of telegrams.0 (asks_for (codes "--report") options)
 vote_form options (telegrams ∷ more ∷ rest) = Err OtherWords
 
+-- the capability of the plant at this place, where the demand is right and there is no option
+abbrev pub capability_of : ℕ → Result Wrench Reject → List Placed → Result Form WordsFault
+capability_of plant (Ok demand) [] = Ok (Capability plant demand)
+capability_of plant (Ok demand) (option ∷ more) = Err OtherWords
+capability_of plant (Err reject) options = Err OtherWords
+
+-- `capability` has the places of `check` and no option
+abbrev pub capability_form : List Placed → List Placed → Result Form WordsFault
+capability_form options [] = Err OtherWords
+capability_form options (plant ∷ []) = Err OtherWords
+capability_form options (plant ∷ x ∷ []) = Err OtherWords
+capability_form options (plant ∷ x ∷ y ∷ []) = Err OtherWords
+capability_form options (plant ∷ x ∷ y ∷ n ∷ []) =
+    capability_of plant.0 (demand_of x.1 y.1 n.1) options
+capability_form options (plant ∷ x ∷ y ∷ n ∷ more ∷ rest) = Err OtherWords
+
 -- the written form of the words, or what is wrong with them: there is none, the command is unknown,
 -- or the others aren't of its form
 abbrev pub written_form : List (List ℕ) → Result Form WordsFault
@@ -180,7 +196,9 @@ written_form (command ∷ words) =
     (if bytes_eq command (codes "check") then check_form (options rest) (places rest)
     else
     (if bytes_eq command (codes "vote") then vote_form (options rest) (places rest)
-    else Err UnknownCommand)))
+    else
+    (if bytes_eq command (codes "capability") then capability_form (options rest) (places rest)
+    else Err UnknownCommand))))
 
 -- the form, or the number of what is wrong
 abbrev pub numbered : Result Form WordsFault → Result Form ℕ
@@ -199,6 +217,7 @@ NamesBelow (Run plant sensors operators workers) count =
 NamesBelow (Replay plant telegrams) count = (plant < count) × (telegrams < count)
 NamesBelow (Check plant demand json) count = plant < count
 NamesBelow (Vote telegrams report) count = telegrams < count
+NamesBelow (Capability plant demand) count = plant < count
 
 -- what the form asks for is within its limits: so many workers, or such a demand
 abbrev pub AsksWithin : Form → Type 0
@@ -206,6 +225,7 @@ AsksWithin (Run plant sensors operators workers) = AreWorkers workers
 AsksWithin (Replay plant telegrams) = Unit {0}
 AsksWithin (Check plant demand json) = IsDemand demand
 AsksWithin (Vote telegrams report) = Unit {0}
+AsksWithin (Capability plant demand) = IsDemand demand
 
 -- the place of the plant's word, where the command has a plant
 abbrev pub plant_place : Form → Option ℕ
@@ -213,6 +233,7 @@ plant_place (Run plant sensors operators workers) = Some plant
 plant_place (Replay plant telegrams) = Some plant
 plant_place (Check plant demand json) = Some plant
 plant_place (Vote telegrams report) = None
+plant_place (Capability plant demand) = Some plant
 
 -- the word at a place, or an empty one where there is none
 abbrev pub word_at : List (List ℕ) → Option ℕ → List ℕ
@@ -227,4 +248,5 @@ files_of (Ok (Run plant sensors operators workers)) =
 files_of (Ok (Replay plant telegrams)) = Some plant ∷ Some telegrams ∷ None ∷ []
 files_of (Ok (Check plant demand json)) = Some plant ∷ None ∷ None ∷ []
 files_of (Ok (Vote telegrams report)) = Some telegrams ∷ None ∷ None ∷ []
+files_of (Ok (Capability plant demand)) = Some plant ∷ None ∷ None ∷ []
 files_of (Err kind) = None ∷ None ∷ None ∷ []

@@ -4,6 +4,7 @@ ghost use Rattle.plant_model.specs.Versions.{IsDemand};
 ghost use Rattle.telegram.specs.Numbers.{number_of, IsFromTo};
 ghost use Rattle.dp_words.specs.Sorting.{pair};
 ghost use Rattle.dp_words.specs.Words.{replay_form, asks_for, demand_of, check_form, vote_form};
+ghost use Rattle.dp_words.specs.Words.{capability_form};
 ghost use Rattle.dp_words.specs.Words.{form_of, written_form, kind_of, plant_place, files_of};
 ghost use Rattle.dp_words.specs.Words.{NamesBelow, AsksWithin};
 
@@ -40,6 +41,11 @@ pub enum Form {
         telegrams: usize,
         report: bool,
     },
+    /// `capability PLANT X Y N`: how much of a demand, and how much wind, each loss leaves.
+    Capability {
+        plant: usize,
+        demand: Wrench,
+    },
 }
 
 /// What is wrong with words that have no written form.
@@ -74,8 +80,10 @@ impl Form {
             → IfSome result (λ place. place < count) }
     {
         match self {
-            Form::Run { plant, .. } | Form::Replay { plant, .. } | Form::Check { plant, .. } =>
-                Some(plant),
+            Form::Run { plant, .. }
+            | Form::Replay { plant, .. }
+            | Form::Check { plant, .. }
+            | Form::Capability { plant, .. } => Some(plant),
             Form::Vote { .. } => None,
         }
     }
@@ -162,6 +170,23 @@ fn vote_form(options: &[Placed<'_>], places: &[Placed<'_>]) -> Result<Form, Word
     }
 }
 
+/// The form of `capability` with these options and places.
+fn capability_form(options: &[Placed<'_>], places: &[Placed<'_>]) -> Result<Form, WordsFault>
+    ensures form { result ≡ capability_form (map pair options.now) (map pair places.now) }
+    ensures demand { IfOk result AsksWithin }
+{
+    let [plant, x, y, n] = places else {
+        return Err(WordsFault::OtherWords);
+    };
+    match (demand_of(x.word, y.word, n.word), options) {
+        (Ok(demand), []) => Ok(Form::Capability {
+            plant: plant.place,
+            demand,
+        }),
+        _ => Err(WordsFault::OtherWords),
+    }
+}
+
 /// The form of the words, or what is wrong with them.
 fn written_form(words: &[String]) -> Result<Form, WordsFault>
     ensures form { result ≡ written_form (map string_bytes words.now) }
@@ -178,6 +203,7 @@ fn written_form(words: &[String]) -> Result<Form, WordsFault>
         "replay" => replay_form(options, places),
         "check" => check_form(options, places),
         "vote" => vote_form(options, places),
+        "capability" => capability_form(options, places),
         _ => Err(WordsFault::UnknownCommand),
     }
 }
@@ -192,7 +218,7 @@ fn written_form(words: &[String]) -> Result<Form, WordsFault>
 /// without it there are 2 workers. `replay` has the places PLANT and TELEGRAMS, of which at most one is the word `-`,
 /// and no option. `check` has the places PLANT, X, Y and N, and may have the option `--json`, at most once. X and Y, in
 /// kN, and N, in kN·dm, are numbers as telegrams spell them, within the demand's limits. `vote` has the place
-/// TELEGRAMS, and may have the option `--report`, at most once.
+/// TELEGRAMS, and may have the option `--report`, at most once. `capability` has the places of `check` and no option.
 pub fn form_of(words: &[String]) -> Result<Form, u32>
     ensures form { result ≡ form_of (map string_bytes words.now) }
     ensures within { IfOk result (λ form. NamesBelow form (length words.now)) }
@@ -220,7 +246,9 @@ pub fn file_words(words: &[String]) -> [Option<usize>; 3]
             },
         ) => [Some(plant), Some(sensors), Some(operators)],
         Ok(Form::Replay { plant, telegrams }) => [Some(plant), Some(telegrams), None],
-        Ok(Form::Check { plant, .. }) => [Some(plant), None, None],
+        Ok(Form::Check { plant, .. } | Form::Capability { plant, .. }) => {
+            [Some(plant), None, None]
+        }
         Ok(Form::Vote { telegrams, .. }) => [Some(telegrams), None, None],
         Err(_) => [None, None, None],
     }

@@ -7,7 +7,9 @@ mod plant_source;
 mod run_form;
 mod sorting;
 mod status;
+mod writing;
 
 pub use form::{Form, WordsFault, file_words, form_of};
 pub use plant_source::plant_from;
 pub use status::{RunStatus, tell};
+pub use writing::send_lines;

@@ -14,7 +14,7 @@ use Rattle.plant_model.specs.declared.limits.TheConstants.{MOST_STREAM_BYTES}
 use Rattle.dp_words.specs.Faults.{HasGreaterCount, TellsFaults}
 use Rattle.dp_words.specs.Words.{form_of}
 use Rattle.dp_words.specs.declared.form.Form.{Form}
-use Rattle.dp_words.specs.declared.form.Form.TheVariants.{Check, Replay, Run, Vote}
+use Rattle.dp_words.specs.declared.form.Form.TheVariants.{Capability, Check, Replay, Run, Vote}
 use Rattle.dp_words.specs.declared.status.RunStatus.{RunStatus}
 use Rattle.dp_words.specs.declared.status.RunStatus.TheVariants.{Clear, JournalFull, LossFound}
 use Rattle.dp_words.specs.declared.status.RunStatus.TheVariants.{NoMemory, Plant, StreamTooLong}
@@ -44,6 +44,9 @@ other-words (command ∷ words) (Ok (Replay plant telegrams)) named is other =
 other-words (command ∷ words) (Ok (Check plant demand json)) named is other =
     absurd (no-other command words (codes "vote") (Check plant demand json) named
     (differ (codes "vote") (codes "check") refl) (sym is))
+other-words (command ∷ words) (Ok (Capability plant demand)) named is other =
+    absurd (no-other command words (codes "vote") (Capability plant demand) named
+    (differ (codes "vote") (codes "capability") refl) (sym is))
 other-words (command ∷ words) (Err kind) named is other =
     sym is ∙ ap Err (vote-other command words kind named (sym is))
 

@@ -1,6 +1,8 @@
-//! Tests of whole sessions and checks over memory: what is written, and the status.
+//! Tests of whole sessions, checks and capabilities over memory: what is written, and the status.
 #![tactic(auto)]
 
+#[cfg(test)]
+mod capabilities;
 #[cfg(test)]
 mod checks;
 #[cfg(test)]

@@ -28,8 +28,8 @@ use Rattle.dp_sessions.specs.Sessions.{has_lost_cell, status_of, told, written}
 use Rattle.dp_sessions.specs.declared.session.Ending.{Ending}
 use Rattle.dp_sessions.specs.declared.session.Ending.TheVariants.{End, Fault, Long, Full, Write}
 use Rattle.dp_sessions.proofs.Fronts.{beginning-trans, front-begins, items-begin, items-front}
-use Rattle.dp_sessions.specs.Writing.{EndsText}
-use Rattle.dp_sessions.proofs.Given.{part-back, part-front, part-whole}
+use Rattle.dp_words.specs.Writing.{EndsText}
+use Rattle.dp_words.proofs.Parts.{part-back, part-front, part-whole}
 use Rattle.watch_session.specs.Asked.{call_for}
 use Rattle.watch_session.specs.Loops.{AreTaken, MayStop, TakesStream, Wrote}
 use Rattle.watch_session.specs.Threads.{AreOfOthers, BeginsPart, StandsForBoth, StandsForStreams, calls_of}

@@ -14,7 +14,7 @@ use Rattle.plant_book.specs.Books.{BookShown}
 use Rattle.plant_book.specs.declared.base.BookBase.{BookBase}
 use Rattle.analysis_workers.specs.Works.{GoesOn}
 use Rattle.log_text.specs.Commands.{command_text, commands_text}
-use Rattle.dp_sessions.specs.Writing.{TookFront}
+use Rattle.dp_words.specs.Writing.{TookFront}
 use Rattle.watch_session.specs.Asked.{call_for}
 use Rattle.watch_session.specs.Loops.{Answers, IsAskedFor, LacksFrames}
 use Rattle.watch_session.specs.Loops.{StopsAtFrames, frames}

@@ -13,7 +13,7 @@ use Rattle.log_text.specs.Commands.{command_text, commands_text}
 use Rattle.dp_sessions.specs.Sessions.{StopsAtCommand}
 use Rattle.dp_sessions.specs.declared.session.Ending.{Ending}
 use Rattle.dp_sessions.specs.declared.session.Ending.TheVariants.{End, Fault, Long, Full, Write}
-use Rattle.dp_sessions.proofs.Given.{part-front, part-whole}
+use Rattle.dp_words.proofs.Parts.{part-front, part-whole}
 use Rattle.watch_session.specs.Loops.{StopsAtFrames, Wrote}
 use Rattle.watch_session.specs.Threads.{AreOfOthers}
 use Rattle.watch_session.specs.declared.stream.StreamEnd.{StreamEnd}

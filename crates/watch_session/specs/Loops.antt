@@ -16,7 +16,7 @@ use Rattle.plant_book.specs.Books.{BookShown}
 use Rattle.analysis_workers.specs.Works.{GoesOn}
 use Rattle.log_text.specs.Commands.{command_text, commands_text}
 use Rattle.dp_sessions.specs.Sessions.{AreAnswered, AreInTurn, GaveItems, IsBeginning, IsFront}
-use Rattle.dp_sessions.specs.Writing.{TookFront}
+use Rattle.dp_words.specs.Writing.{TookFront}
 use Rattle.dp_sessions.specs.declared.session.Ending.TheVariants.{End, Fault, Long, Full, Write}
 use Rattle.watch_session.specs.Asked.{call_for}
 use Rattle.watch_session.specs.Threads.{calls_of}

@@ -3,7 +3,7 @@ ghost use Rattle.std.specs.Prelude.{◌≡◌, ◌≢◌, ◌≤◌, ◌⊎◌, 
 ghost use Rattle.dp_io.specs.Shown.{reading, writing};
 ghost use Rattle.dp_sessions.specs.Sessions.{GaveTooManyItems, WritesBegun, WritesPart};
 ghost use Rattle.dp_sessions.specs.Sessions.{WritesWhole, passed, status_of};
-ghost use Rattle.dp_sessions.specs.Writing.{EndsWriting};
+ghost use Rattle.dp_words.specs.Writing.{EndsWriting};
 ghost use Rattle.watch_session.specs.Threads.{ending_of, graver, has_all_frames, watched};
 
 use crate::session::watch;

@@ -7,8 +7,9 @@ use Rattle.dp_words.specs.declared.form.Form.{Form}
 use Rattle.dp_words.specs.declared.form.Form.TheVariants.{Check, Replay, Run}
 use Rattle.dp_sessions.specs.Checks.{AsksCheck}
 use Rattle.dp_sessions.specs.Sessions.{passed}
-use Rattle.dp_sessions.proofs.Plants.{named-at, word-at}
-use Rattle.dp_program.proofs.Named.{no-vote, ran-check, ran-replay, ran-usage, ran-watch}
+use Rattle.dp_words.proofs.Plants.{named-at, word-at}
+use Rattle.dp_program.proofs.Named.{no-capability, no-vote, ran-check, ran-replay, ran-usage}
+use Rattle.dp_program.proofs.Named.{ran-watch}
 use Rattle.dp_program.proofs.program.answer.Goals as goal
 
 pub watch-requires-clause-workers : goal.watch-requires-clause-workers
@@ -88,5 +89,11 @@ returns-in-Err g c =
 pub unreachable-requires : goal.unreachable-requires
 unreachable-requires g c =
     let vote = c.in-Ok-Vote in
-    no-vote (map string_bytes c.args.words.now) vote.field-0-0 vote.field-0-1 c.requires
-    (sym vote.ensures.form ∙ ap Ok vote.field-0-is)
+    no-vote (map string_bytes c.args.words.now) vote.field-0-0 vote.field-0-1
+    c.requires.no_vote (sym vote.ensures.form ∙ ap Ok vote.field-0-is)
+
+pub unreachable-requires-in-Ok-Capability : goal.unreachable-requires-in-Ok-Capability
+unreachable-requires-in-Ok-Capability g c =
+    let capability = c.in-Ok-Capability in
+    no-capability (map string_bytes c.args.words.now) capability.field-0-0 capability.field-0-1
+    c.requires.no_capability (sym capability.ensures.form ∙ ap Ok capability.field-0-is)

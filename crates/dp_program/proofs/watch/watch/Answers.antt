@@ -5,7 +5,7 @@ use Rattle.dp_io.specs.Shown.{NoneFailed, reading, writing}
 use Rattle.dp_words.specs.declared.status.RunStatus.TheVariants.{NoMemory, WriteFault}
 use Rattle.dp_sessions.specs.Sessions.{passed}
 use Rattle.dp_sessions.proofs.Endings.{session-ended, session-no_plant, session-stopped}
-use Rattle.dp_sessions.proofs.Faults.{all-two, tells-no_plant}
+use Rattle.dp_words.proofs.Faults.{all-two, tells-no_plant}
 use Rattle.watch_session.specs.Threads.{watched}
 use Rattle.dp_program.proofs.Gravest.{shows-both}
 use Rattle.dp_program.proofs.watch.watch.Goals as goal

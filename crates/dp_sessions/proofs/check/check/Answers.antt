@@ -5,7 +5,7 @@ use Rattle.dp_io.specs.Shown.{NoneFailed, reading, writing}
 use Rattle.dp_words.specs.declared.status.RunStatus.TheVariants.{NoMemory, WriteFault}
 use Rattle.std.proofs.lemmas.List.Elements.{All-nil}
 use Rattle.dp_sessions.proofs.Checked.{IsAsked, ends-held, ends-lost, ends-no_plant, ends-stopped}
-use Rattle.dp_sessions.proofs.Faults.{tells-no_plant}
+use Rattle.dp_words.proofs.Faults.{tells-no_plant}
 use Rattle.dp_sessions.proofs.check.check.Goals as goal
 
 pub returns-in-Err-clause-findings : goal.returns-in-Err-clause-findings

@@ -9,7 +9,7 @@ use Rattle.dp_sessions.specs.Checks.{EndsFindings}
 use Rattle.dp_words.specs.declared.form.Form.{Form}
 use Rattle.dp_words.specs.declared.form.Form.TheVariants.{Check}
 use Rattle.dp_sessions.proofs.Checked.{check-kind, ends-usage, other-words}
-use Rattle.dp_sessions.proofs.Plants.{named-at, word-at}
+use Rattle.dp_words.proofs.Plants.{named-at, word-at}
 use Rattle.dp_sessions.proofs.check.check_words.Goals as goal
 use Rattle.dp_sessions.proofs.check.check_words.Goals.{in_default-via-in-Ok+in_default}
 use Rattle.dp_sessions.proofs.check.check_words.Goals.{in_default-via-in_default}

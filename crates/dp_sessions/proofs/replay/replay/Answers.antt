@@ -6,7 +6,7 @@ use Rattle.dp_words.specs.declared.status.RunStatus.TheVariants.{NoMemory, Write
 use Rattle.dp_sessions.specs.Sessions.{passed, recorded}
 use Rattle.dp_sessions.proofs.Endings.{session-ended, session-no_plant, session-stopped}
 use Rattle.dp_sessions.proofs.Endings.{shows-ending}
-use Rattle.dp_sessions.proofs.Faults.{all-one, tells-no_plant}
+use Rattle.dp_words.proofs.Faults.{all-one, tells-no_plant}
 use Rattle.dp_sessions.proofs.replay.replay.Goals as goal
 
 pub returns-in-Err-clause-session : goal.returns-in-Err-clause-session

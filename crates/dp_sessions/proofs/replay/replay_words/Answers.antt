@@ -5,8 +5,8 @@ use Rattle.dp_io.specs.Shown.{NoneFailed, reading, writing}
 use Rattle.dp_words.specs.declared.status.RunStatus.TheVariants.{Usage}
 use Rattle.dp_sessions.specs.Sessions.{passed, recorded}
 use Rattle.dp_sessions.proofs.Endings.{session-usage}
-use Rattle.dp_sessions.proofs.Faults.{all-one}
-use Rattle.dp_sessions.proofs.Plants.{named-at}
+use Rattle.dp_words.proofs.Faults.{all-one}
+use Rattle.dp_words.proofs.Plants.{named-at}
 use Rattle.dp_sessions.proofs.Votes.{asks-none, asks-vote}
 use Rattle.dp_sessions.proofs.replay.replay_words.Goals as goal
 

@@ -4,8 +4,8 @@ use Rattle.std.proofs.lemmas.Result.{err_from_is_err_and}
 use Rattle.dp_words.specs.declared.status.RunStatus.{RunStatus}
 use Rattle.dp_io.specs.Shown.{writing}
 use Rattle.log_text.specs.Texts.{log_text, report_text}
-use Rattle.dp_sessions.specs.Writing.{EndsText}
-use Rattle.dp_sessions.proofs.Texted.{text-back, text-front}
+use Rattle.dp_words.specs.Writing.{EndsText}
+use Rattle.dp_words.proofs.Texted.{text-back, text-front}
 use Rattle.dp_sessions.proofs.session.write_history.Goals as goal
 
 pub returns-in_err-write_log : goal.returns-in_err-write_log

@@ -8,10 +8,10 @@ use Rattle.plant_core.specs.Machine.{IsCall, IsLegal, is_answer, opening_stand}
 use Rattle.plant_core.specs.declared.call.Entry.{Entry}
 use Rattle.dp_io.specs.Shown.{GrewInPart}
 use Rattle.log_text.specs.Texts.{log_head, entry_text}
-use Rattle.dp_sessions.proofs.Given.{part-front}
+use Rattle.dp_words.proofs.Parts.{part-front}
 use Rattle.dp_sessions.proofs.Answers.{answer-at, call-at}
 use Rattle.dp_sessions.proofs.Logs.{lines-front, lines-part, lines-whole, part-as}
-use Rattle.dp_sessions.proofs.Texted.{text-failed, text-starved}
+use Rattle.dp_words.proofs.Texted.{text-failed, text-starved}
 use Rattle.dp_sessions.proofs.session.write_log.Goals as goal
 
 pub entry_text-requires-clause-answer : goal.entry_text-requires-clause-answer

@@ -1,7 +1,8 @@
 -- The kept options and places are enough for each command.
 use Rattle.std.proofs.Common.{ap, map, string_bytes, ◌∙◌}
 use Rattle.dp_words.specs.Sorting.{pair}
-use Rattle.dp_words.proofs.Forms.{form_of_check, form_of_replay, form_of_run, form_of_vote}
+use Rattle.dp_words.proofs.Forms.{form_of_capability, form_of_check, form_of_replay, form_of_run}
+use Rattle.dp_words.proofs.Forms.{form_of_vote}
 use Rattle.dp_words.proofs.Forms.{names_of}
 use Rattle.dp_words.proofs.form.written_form.Goals as goal
 
@@ -45,6 +46,16 @@ returns-in-vote-clause-form c =
     c.in-vote.is (ap (map pair) c.as_slice-options.ensures.value ∙ sorted.ensures.options)
     (ap (map pair) c.as_slice-places.ensures.value ∙ sorted.ensures.places)
 
+pub returns-in-capability-clause-form : goal.returns-in-capability-clause-form
+returns-in-capability-clause-form c =
+    let sorted = c.sort_words-sorted in
+    c.capability_form.ensures.form
+    ∙ form_of_capability string_bytes c.args.words.now c.in-Some.words.now c.in-Some.command.now
+    c.as_str.result.now (map pair c.as_slice-options.result.now)
+    (map pair c.as_slice-places.result.now) c.in-Some.ensures.cases.0 c.as_str.ensures.value
+    c.in-capability.is (ap (map pair) c.as_slice-options.ensures.value ∙ sorted.ensures.options)
+    (ap (map pair) c.as_slice-places.ensures.value ∙ sorted.ensures.places)
+
 pub returns-in-run-clause-within : goal.returns-in-run-clause-within
 returns-in-run-clause-within c =
     names_of string_bytes c.args.words.now c.run_form.result (returns-in-run-clause-form c)
@@ -60,3 +71,7 @@ returns-in-check-clause-within c =
 pub returns-in-vote-clause-within : goal.returns-in-vote-clause-within
 returns-in-vote-clause-within c =
     names_of string_bytes c.args.words.now c.vote_form.result (returns-in-vote-clause-form c)
+
+pub returns-in-capability-clause-within : goal.returns-in-capability-clause-within
+returns-in-capability-clause-within c =
+    names_of string_bytes c.args.words.now c.capability_form.result (returns-in-capability-clause-form c)

@@ -18,7 +18,7 @@ use Rattle.dp_words.specs.Words.{form_of, plant_place}
 use Rattle.dp_words.specs.declared.form.Form.{Form}
 use Rattle.dp_words.specs.declared.status.RunStatus.{RunStatus}
 use Rattle.dp_words.specs.declared.status.RunStatus.TheVariants.{NoMemory, Plant, ReadFault, Usage}
-use Rattle.dp_sessions.specs.Plants.{FileTells, HasAPlant, HasPlant, HasPlantCause, WordsSay}
+use Rattle.dp_words.specs.Plants.{FileTells, HasAPlant, HasPlant, HasPlantCause, WordsSay}
 
 -- words of the form name one plant
 one-word : (words : List (List ℕ)) (a b : List ℕ) → HasPlant words a → HasPlant words b → a ≡ b
@@ -34,7 +34,7 @@ has-form words form kind is e = cc
 -- ---- what a plant file says
 
 -- a file of too many bytes says no more than that
-too_long : (bytes : List ℕ) → MOST_PLANT_BYTES < length bytes → plant_of bytes ≡ Err TooLong
+pub too_long : (bytes : List ℕ) → MOST_PLANT_BYTES < length bytes → plant_of bytes ≡ Err TooLong
 too_long bytes long = rw (lt-ltb MOST_PLANT_BYTES (length bytes) long) refl
 
 all-or-front : (before after : Option (List ℕ)) (given bytes : List ℕ) → Gave before after given

@@ -1,7 +1,7 @@
 -- The lines before the rest were taken.
 use Rattle.std.proofs.Common.{◌≡◌, List, ℕ, ◌++◌, length}
 use Rattle.dp_io.specs.Streams.{Grew}
-use Rattle.dp_sessions.proofs.writing.send_lines.Given as goal
+use Rattle.dp_words.proofs.writing.send_lines.Given as goal
 
 abbrev pub invariant-loop-end : goal.invariant-loop-end
 invariant-loop-end g l = record {

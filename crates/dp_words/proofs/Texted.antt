@@ -6,8 +6,8 @@ use Rattle.dp_io.proofs.Grown.{Grew-append}
 use Rattle.dp_words.specs.declared.status.RunStatus.{RunStatus}
 use Rattle.dp_words.specs.declared.status.RunStatus.TheVariants.{NoMemory, WriteFault}
 use Rattle.dp_io.specs.Shown.{HasRisen, Shown, TookPart}
-use Rattle.dp_sessions.specs.Writing.{EndsText}
-use Rattle.dp_sessions.proofs.Given.{part-front, part-back}
+use Rattle.dp_words.specs.Writing.{EndsText}
+use Rattle.dp_words.proofs.Parts.{part-front, part-back}
 
 -- a sink that showed this
 abbrev pub showed : Option (List ℕ) → Option (List ℕ) → ℕ → ℕ → Shown

@@ -3,8 +3,8 @@ use Rattle.std.proofs.Common.{◌<◌, ◌+◌, List, ℕ, ◌++◌, length, tak
 use Rattle.std.proofs.lemmas.Result.{err_from_is_err_and, on_err_weaker}
 use Rattle.dp_io.specs.Streams.{Grew}
 use Rattle.dp_io.proofs.Grown.{Grew-append}
-use Rattle.dp_sessions.proofs.Given.{lines-more, short-back, short-front}
-use Rattle.dp_sessions.proofs.writing.send_lines.Goals as goal
+use Rattle.dp_words.proofs.Parts.{lines-more, short-back, short-front}
+use Rattle.dp_words.proofs.writing.send_lines.Goals as goal
 
 pub returns-in_err-send_all-clause-part : goal.returns-in_err-send_all-clause-part
 returns-in_err-send_all-clause-part g c =

@@ -1,7 +1,7 @@
 //! Texts that are handed to a sink line by line.
 ghost use Rattle.std.specs.Prelude.{◌≡◌, ◌≤◌, OnErr, OnOk};
 ghost use Rattle.dp_io.specs.Streams.{Rose};
-ghost use Rattle.dp_sessions.specs.Writing.{TookFront};
+ghost use Rattle.dp_words.specs.Writing.{TookFront};
 ghost use Rattle.dp_io.specs.Shown.{Took, writing};
 
 use dp_io::{Failed, Sink, send_all};
