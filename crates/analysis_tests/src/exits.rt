@@ -74,7 +74,7 @@ fn demands_of_a_whole_plant(rt: HostRuntime) -> Result<(), Fail> {
 
 #[test]
 fn the_farthest_demand_on_twelve_thrusters(rt: HostRuntime) -> Result<(), Fail> {
-    let exit = portal::exit(&square(), at(24_000, 24_000, 76_800_000)).ok_or("gave up")?;
+    let exit = portal::exit(&square(0), at(24_000, 24_000, 76_800_000)).ok_or("gave up")?;
     assert_eq!(rt; exit.cut.w, at(1_600, 1_600, 1));
     Ok(())
 }

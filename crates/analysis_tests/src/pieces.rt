@@ -4,7 +4,7 @@ use crate::sums::add;
 use arrayvec::ArrayVec;
 use certificate::{check_cut, lies};
 use plant_model::thrust::{Piece, Point, Thrust};
-use wrench_geometry::{Sums, Vec3};
+use wrench_geometry::{Sums, Vec3, fan};
 
 const AHEAD: Vec3 = Vec3 { x: 1, y: 0, z: 0 };
 
@@ -25,6 +25,37 @@ fn starboard() -> Piece {
     points.push(Point { x: 0, y: 400 });
     points.push(Point { x: -400, y: 0 });
     Piece { points }
+}
+
+/// 400 kN ahead and to starboard, and a point between them that is inside.
+fn dented() -> Piece {
+    let mut points = ArrayVec::new();
+    points.push(Point { x: 400, y: 0 });
+    points.push(Point { x: 100, y: 100 });
+    points.push(Point { x: 0, y: 400 });
+    Piece { points }
+}
+
+/// The same without the point inside, in the other order.
+fn turned() -> Piece {
+    let mut points = ArrayVec::new();
+    points.push(Point { x: 0, y: 400 });
+    points.push(Point { x: 400, y: 0 });
+    Piece { points }
+}
+
+#[test]
+fn fans_go_round_by_the_left(rt: HostRuntime) {
+    let cases = [
+        (Piece::default(), true),
+        (tunnel(), true),
+        (starboard(), true),
+        (dented(), false),
+        (turned(), false),
+    ];
+    for (piece, is_fan) in cases {
+        assert_eq!(rt; fan(&piece), is_fan);
+    }
 }
 
 /// Whether the piece gives the thrust over `q`, which is at least 1.

@@ -1,14 +1,15 @@
 //! Sums of lists, and demands.
-ghost use Rattle.std.specs.Prelude.{pos, ◌≤ℤ◌};
+ghost use Rattle.std.specs.Prelude.{pos, ◌≤ℤ◌, All};
 ghost use Rattle.plant_model.specs.Numbers.{IsWithin};
 ghost use Rattle.plant_model.specs.declared.limits.TheConstants.{FARTHEST_LEVER, MOST_THRUST};
 ghost use Rattle.wrench_geometry.specs.Wrenches.{IsDemandVector, IsPointWithin};
 
+use arrayvec::ArrayVec;
 use plant_model::limits::{
     FARTHEST_LEVER, MOST_FORCE, MOST_MOMENT, MOST_PIECE_POINTS, MOST_THRUST, MOST_THRUSTERS,
 };
 use plant_model::thrust::Point;
-use wrench_geometry::{Images, Sums, Vec3, image};
+use wrench_geometry::{Images, Sums, Vec3};
 
 pub(crate) const TUNNEL: [(i32, i32); 2] = [(0, -200), (0, 200)];
 
@@ -18,6 +19,8 @@ pub(crate) const AZIMUTH: [(i32, i32); 3] = [(400, 0), (0, 400), (-400, 0)];
 const LONG: [(i32, i32); 2] = [(0, 2_000), (0, -2_000)];
 
 const WIDE: [(i32, i32); 3] = [(2_000, 0), (0, 2_000), (-2_000, 0)];
+
+const WIDE_TO_PORT: [(i32, i32); 3] = [(-2_000, 0), (0, -2_000), (2_000, 0)];
 
 /// The vector with these components, each brought within the limits of a demand.
 pub(crate) fn at(x: i32, y: i32, z: i32) -> Vec3
@@ -56,16 +59,23 @@ fn thrust_of(thrust: (i32, i32)) -> Point
     }
 }
 
-/// Adds the list of a thruster's images, of as many as there is room for.
-pub(crate) fn add(sums: &mut Sums, lever: (i32, i32), thrusts: &[(i32, i32)]) {
-    let mut images = Images::new();
+/// The thrusts, as many as a piece has room for.
+fn points_of(thrusts: &[(i32, i32)]) -> ArrayVec<Point, MOST_PIECE_POINTS>
+    ensures { All (IsPointWithin MOST_THRUST) result.items }
+{
+    let mut points = ArrayVec::new();
     for thrust in thrusts {
-        if images.as_slice().len() < MOST_PIECE_POINTS {
-            images.push(image(lever_at(lever), thrust_of(*thrust)));
+        if !points.is_full() {
+            points.push(thrust_of(*thrust));
         }
     }
+    points
+}
+
+/// Adds the list of a thruster's images, of as many as there is room for.
+pub(crate) fn add(sums: &mut Sums, lever: (i32, i32), thrusts: &[(i32, i32)]) {
     if sums.lists().len() < MOST_THRUSTERS {
-        sums.push(images);
+        sums.push(Images::at(lever_at(lever), &points_of(thrusts)));
     }
 }
 
@@ -102,17 +112,24 @@ pub(crate) fn whole() -> Sums {
     sums
 }
 
+/// A piece of a ring of the square: its first where the choice is even, else its second.
+fn wide(choice: u32) -> [(i32, i32); 3] {
+    if choice % 2 == 0 { WIDE } else { WIDE_TO_PORT }
+}
+
 /// Three thrusters at each corner of a square: two that turn and a tunnel at its starboard corners,
-/// one that turns and two tunnels at the others.
-pub(crate) fn square() -> Sums {
+/// one that turns and two tunnels at the others. Each bit of the choice is that of one that turns.
+pub(crate) fn square(choice: u32) -> Sums {
     let mut sums = Sums::new();
+    let mut rest = choice;
     for ahead in [1_600, -1_600] {
-        add(&mut sums, (ahead, 1_600), &WIDE);
-        add(&mut sums, (ahead, 1_600), &WIDE);
+        add(&mut sums, (ahead, 1_600), &wide(rest));
+        add(&mut sums, (ahead, 1_600), &wide(rest / 2));
         add(&mut sums, (ahead, 1_600), &LONG);
-        add(&mut sums, (ahead, -1_600), &WIDE);
+        add(&mut sums, (ahead, -1_600), &wide(rest / 4));
         add(&mut sums, (ahead, -1_600), &LONG);
         add(&mut sums, (ahead, -1_600), &LONG);
+        rest /= 8;
     }
     sums
 }

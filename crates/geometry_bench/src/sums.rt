@@ -1,10 +1,12 @@
 //! The sums that are timed.
+ghost use Rattle.std.specs.Prelude.{All};
 ghost use Rattle.plant_model.specs.declared.limits.TheConstants.{FARTHEST_LEVER, MOST_THRUST};
 ghost use Rattle.wrench_geometry.specs.Wrenches.{IsPointWithin};
 
+use arrayvec::ArrayVec;
 use plant_model::limits::{FARTHEST_LEVER, MOST_PIECE_POINTS, MOST_THRUST, MOST_THRUSTERS};
 use plant_model::thrust::Point;
-use wrench_geometry::{Images, Sums, image};
+use wrench_geometry::{Images, Sums};
 
 /// Points as pairs of x and y.
 type Pair = (i32, i32);
@@ -55,16 +57,23 @@ fn thrust_of(pair: Pair) -> Point
     }
 }
 
-/// Adds the images of a thruster's thrusts, as many as there is room for.
-fn add(sums: &mut Sums, lever: Pair, thrusts: &[Pair]) {
-    let mut images = Images::new();
+/// The thrusts, as many as a piece has room for.
+fn points_of(thrusts: &[Pair]) -> ArrayVec<Point, MOST_PIECE_POINTS>
+    ensures { All (IsPointWithin MOST_THRUST) result.items }
+{
+    let mut points = ArrayVec::new();
     for thrust in thrusts {
-        if images.as_slice().len() < MOST_PIECE_POINTS {
-            images.push(image(lever_at(lever), thrust_of(*thrust)));
+        if !points.is_full() {
+            points.push(thrust_of(*thrust));
         }
     }
+    points
+}
+
+/// Adds the images of a thruster's thrusts, as many as there is room for.
+fn add(sums: &mut Sums, lever: Pair, thrusts: &[Pair]) {
     if sums.lists().len() < MOST_THRUSTERS {
-        sums.push(images);
+        sums.push(Images::at(lever_at(lever), &points_of(thrusts)));
     }
 }
 

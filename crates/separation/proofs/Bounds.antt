@@ -1,13 +1,17 @@
 -- How large the parts of a cut are, and the components of directions and normals.
-use Rattle.std.proofs.Common.{◌≡◌, ℤ, pos, neg_ℤ, ◌≤ℤ◌, List, inl, inr, ◌∙◌, arith}
+use Rattle.std.proofs.Common.{◌≡◌, ℕ, suc, ◌*◌, ◌≤◌, ℤ, pos, neg_ℤ, ◌+ℤ◌, ◌≤ℤ◌, ◌<ℤ◌, List, [], ◌∷◌}
+use Rattle.std.proofs.Common.{length, inl, inr, ◌∙◌, arith}
+use Rattle.std.specs.Prelude.{All}
 use Rattle.std.proofs.lemmas.List.Elements.{All-contains}
 use Rattle.int_ring.proofs.Laws.{linear}
 use Rattle.int_ring.proofs.Machine.{machine}
 use Rattle.plant_model.specs.Numbers.{IsWithin}
 use Rattle.wrench_geometry.specs.declared.vector.Vec3.{Vec3}
 use Rattle.wrench_geometry.specs.Vectors.{opposite_of, cross_of, difference_of, dot_of, greatest_of}
+use Rattle.wrench_geometry.specs.Vectors.{support_of}
 use Rattle.wrench_geometry.specs.Wrenches.{IsDemandVector, AreImages, IsImage}
 use Rattle.wrench_geometry.proofs.Bounds.{wider, within}
+use Rattle.wrench_geometry.proofs.Supports.{support_cons}
 use Rattle.separation.specs.Candidates.{IsNormal}
 use Rattle.separation.specs.Directions.{IsDirection, IsPoint}
 use Rattle.separation.proofs.Supports.{greatest_reached, point_at_origin}
@@ -69,3 +73,23 @@ difference_direction a b f g =
 
 pub image_direction : (v : Vec3) → IsImage v → IsDirection v
 image_direction v f = wider _ _ (omega (arith, linear)) (omega (arith, linear)) f
+
+-- the support of a normal, at most so much for each list
+support_at_most : (w : Vec3) (lists : List (List Vec3)) → IsNormal w → All AreImages lists →
+    support_of lists w ≤ℤ pos (length lists * 614400000000000)
+support_at_most w [] normal images = omega (arith, linear)
+support_at_most w (list ∷ lists) normal images =
+    sum (length lists) (support_cons w list lists) (greatest_below w list normal (images 0 [] (omega arith)))
+    (support_at_most w lists normal (λ k d h. images (suc k) d (omega arith)))
+  where
+    sum : (n : ℕ) {a b c : ℤ} → a ≡ b +ℤ c → b ≤ℤ pos 614400000000000 →
+        c ≤ℤ pos (n * 614400000000000) → a ≤ℤ pos (suc n * 614400000000000)
+    sum n {a} {b} {c} e g h = omega (arith, linear)
+
+pub support_below : (w : Vec3) (lists : List (List Vec3)) → IsNormal w → All AreImages lists →
+    length lists ≤ 12 → support_of lists w <ℤ pos 7500000000000000
+support_below w lists normal images few =
+    below (support_at_most w lists normal images)
+  where
+    below : {a : ℤ} → a ≤ℤ pos (length lists * 614400000000000) → a <ℤ pos 7500000000000000
+    below {a} h = omega (arith, linear)

@@ -1,9 +1,9 @@
 -- Direction lists of the supports of lists: where the signs on the directions are kept, a greatest
 -- point stays greatest.
-use Rattle.std.proofs.Common.{◌≡◌, ℕ, ◌+◌, ◌*◌, ◌<◌, ◌≤◌, get_or, subst, ◌⊎◌, inl, inr, ℤ, pos}
+use Rattle.std.proofs.Common.{◌≡◌, ℕ, ◌+◌, ◌*◌, ◌/◌, ◌<◌, ◌≤◌, get_or, subst, ◌⊎◌, inl, inr, ℤ, pos}
 use Rattle.std.proofs.Common.{◌+ℤ◌, ◌-ℤ◌, ◌*ℤ◌, neg_ℤ, ◌≤ℤ◌, ◌<ℤ◌, List, [], ◌∷◌, ◌++◌, refl, sym}
 use Rattle.std.proofs.Common.{ap, ap₂, ◌∙◌, arith}
-use Rattle.std.specs.Prelude.{All, Contains}
+use Rattle.std.specs.Prelude.{All, Contains, fold}
 use Rattle.std.proofs.lemmas.List.Elements.{Contains-append_left, All-contains, Contains-get_or}
 use Rattle.std.proofs.lemmas.List.Elements.{Contains-push_cases}
 use Rattle.std.proofs.Math.IntN.{*ℤ_comm}
@@ -15,20 +15,15 @@ use Rattle.int_ring.proofs.Ring.{ring, reads}
 use Rattle.wrench_geometry.specs.declared.vector.Vec3.{Vec3}
 use Rattle.wrench_geometry.specs.Vectors.{opposite_of, dot_of, difference_of, sum_of, zero_vector}
 use Rattle.wrench_geometry.specs.Vectors.{greatest_of, support_of}
+use Rattle.wrench_geometry.specs.Directions.{directions_in, directions_of}
 use Rattle.wrench_geometry.proofs.Bounds.{same_vector}
 use Rattle.wrench_geometry.proofs.Supports.{support_cons}
-use Rattle.separation.specs.Directions.{IsAlong, IsPoint, Keeps, KeepsSigns, Settles}
+use Rattle.separation.specs.Directions.{IsAlong, IsPoint, Keeps, KeepsGreatest, KeepsSigns, Settles}
 use Rattle.separation.specs.Directions.{SettlesDifferences, Spans}
 use Rattle.separation.proofs.Members.{among_head, among_tail, none_among}
 use Rattle.separation.proofs.Moves.{IsDirectionList, commutes, opposite_dot}
 use Rattle.separation.proofs.Normals.{Along, one_line, one_sign}
 use Rattle.separation.proofs.Supports.{greatest_is, greatest_reached, point_at_most, support_from_0}
-
--- where the signs on the directions are kept, a point of the list that is greatest stays greatest
-abbrev pub KeepsGreatest : List Vec3 → List Vec3 → Type 0
-KeepsGreatest directions list =
-    (u w : Vec3) → KeepsSigns directions u w → (v : Vec3) → IsPoint list v →
-    greatest_of u list ≡ dot_of u v → greatest_of w list ≡ dot_of w v
 
 -- the support of the lists where signs are kept is a product with one vector
 linear_at : (directions : List Vec3) (lists : List (List Vec3)) →
@@ -247,6 +242,11 @@ pub differences_within : (before after : List Vec3) → Within before after → 
 differences_within before after within list settled a b f g =
     settles_within before after within (difference_of a b) (settled a b f g)
 
+pub greatest_within : (before after : List Vec3) → Within before after → (list : List Vec3) →
+    KeepsGreatest before list → KeepsGreatest after list
+greatest_within before after within list keeps u w signs =
+    keeps u w (λ e among. signs e (within e among))
+
 -- the new directions are the old ones and more, which settle a point and its differences with the
 -- points before it
 pub record IsAdded (before after front : List Vec3) (point : Vec3) : Type 0 where
@@ -347,8 +347,22 @@ pub few_more : (start now pushed after p : ℕ) → 2 * now ≤ 2 * start + p * 
     pushed ≤ now + 1 → after ≤ pushed + p → 2 * after ≤ 2 * start + (p + 1) * (p + 1 + 1)
 few_more start now pushed after p few e f = omega arith
 
-pub few_at_end : (start now p : ℕ) → 2 * now ≤ 2 * start + p * (p + 1) → p ≤ 8 → now ≤ start + 36
-few_at_end start now p few h = omega (arith, mul-le-mul_left p (nine h))
+pub few_at_end : (start now p : ℕ) → 2 * now ≤ 2 * start + p * (p + 1) →
+    now ≤ start + p * (p + 1) / 2
+few_at_end start now p few = omega arith
+
+pub eight_differences : (p : ℕ) → p ≤ 8 → p * (p + 1) / 2 ≤ 36
+eight_differences p h = omega (arith, mul-le-mul_left p (nine h), mul-le-mul_left 9 h)
   where
     nine : p ≤ 8 → p + 1 ≤ 9
     nine h = omega arith
+
+-- there are at least the axes
+at_least_start : (start : ℕ) (lists : List (List Vec3)) →
+    start ≤ fold (λ count list. count + directions_in list) start lists
+at_least_start start [] = omega arith
+at_least_start start (list ∷ lists) =
+    let more = at_least_start (start + directions_in list) lists in omega arith
+
+pub directions_from_3 : (lists : List (List Vec3)) → 3 ≤ directions_of lists
+directions_from_3 lists = at_least_start 3 lists

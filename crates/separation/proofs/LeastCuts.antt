@@ -12,7 +12,7 @@ use Rattle.wrench_geometry.specs.Cuts.{IsCut, IsLeastCut}
 use Rattle.wrench_geometry.specs.Vectors.{cross_of, dot_of, opposite_of, support_of, zero_vector}
 use Rattle.wrench_geometry.proofs.Bounds.{same_vector}
 use Rattle.separation.specs.Candidates.{IsAtMost, IsAtMostAlong}
-use Rattle.separation.specs.Directions.{SettlesDifferences, Spans}
+use Rattle.separation.specs.Directions.{KeepsGreatest, SettlesDifferences, Spans}
 use Rattle.separation.proofs.CutOrder.{IsEither, along_trans}
 use Rattle.separation.proofs.DirectionLists.{direction_list, keeps_greatest}
 use Rattle.separation.proofs.Members.{none_among}
@@ -113,6 +113,13 @@ directions_of_sums lists directions spans settled =
     direction_list directions lists spans
     (λ list among. keeps_greatest directions list
     (All-contains (SettlesDifferences directions) lists list settled among))
+
+pub directions_that_keep : (lists : List (List Vec3)) (directions : List Vec3) →
+    Spans directions → All (KeepsGreatest directions) lists →
+    IsDirectionList (support_of lists) directions
+directions_that_keep lists directions spans keeps =
+    direction_list directions lists spans
+    (λ list among. All-contains (KeepsGreatest directions) lists list keeps among)
 
 pub least_of_pairs : (lists : List (List Vec3)) (d : Vec3) (cut : Cut) (directions : List Vec3) →
     IsDirectionList (support_of lists) directions → IsCut lists d cut →

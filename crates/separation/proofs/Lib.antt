@@ -6,3 +6,4 @@ pub mod DirectionLists
 pub mod Bounds
 pub mod CutOrder
 pub mod LeastCuts
+pub mod EdgeLists

@@ -1,8 +1,9 @@
 -- What lists of directions say of how far sums reach.
-use Rattle.std.specs.Prelude.{◌≡◌, ℤ, pos, ◌≤ℤ◌, ◌<ℤ◌, ◌⊎◌, List, Contains}
+use Rattle.std.specs.Prelude.{◌≡◌, ℕ, suc, ◌≤◌, ℤ, pos, ◌≤ℤ◌, ◌<ℤ◌, ◌⊎◌, List, length, Contains}
 use Rattle.wrench_geometry.specs.declared.vector.Vec3.{Vec3}
+use Rattle.wrench_geometry.specs.Fans.{corner_at}
 use Rattle.wrench_geometry.specs.Vectors.{IsVectorWithin, cross_of, difference_of, dot_of}
-use Rattle.wrench_geometry.specs.Vectors.{zero_vector}
+use Rattle.wrench_geometry.specs.Vectors.{greatest_of, zero_vector}
 use Rattle.separation.specs.declared.directions.TheConstants.{DIRECTION_FORCE, DIRECTION_MOMENT}
 
 -- the vector is within the bounds of a difference of two images
@@ -30,6 +31,18 @@ IsPoint list v = (v ≡ zero_vector) ⊎ Contains list v
 abbrev pub SettlesDifferences : List Vec3 → List Vec3 → Type 0
 SettlesDifferences directions list =
     (a b : Vec3) → IsPoint list a → IsPoint list b → Settles directions (difference_of a b)
+
+-- the directions settle each edge of the cycle of the origin and the points in order
+abbrev pub SettlesEdges : List Vec3 → List Vec3 → Type 0
+SettlesEdges directions list =
+    (i : ℕ) → i ≤ length list →
+    Settles directions (difference_of (corner_at list (suc i)) (corner_at list i))
+
+-- where the signs on the directions are kept, a point of the list that is greatest stays greatest
+abbrev pub KeepsGreatest : List Vec3 → List Vec3 → Type 0
+KeepsGreatest directions list =
+    (u w : Vec3) → KeepsSigns directions u w → (v : Vec3) → IsPoint list v →
+    greatest_of u list ≡ dot_of u v → greatest_of w list ≡ dot_of w v
 
 -- only the zero vector is perpendicular to all directions
 abbrev pub Spans : List Vec3 → Type 0

@@ -1,15 +1,21 @@
 //! The directions of which each two have a candidate for a least cut as their normal.
 ghost use Rattle.std.specs.Prelude.{◌≡◌, ◌+◌, ◌*◌, ◌<◌, ◌≤◌, ◌∷◌, [], ◌++◌, All, ◌↔◌, Contains};
 ghost use Rattle.std.specs.Prelude.{IsTrue, length};
+ghost use Rattle.wrench_geometry.specs.declared.counting.TheConstants.{MOST_DIFFERENCES};
+ghost use Rattle.wrench_geometry.specs.declared.counting.TheConstants.{MOST_DIRECTIONS};
+ghost use Rattle.wrench_geometry.specs.Directions.{differences_of, directions_in, directions_of};
+ghost use Rattle.wrench_geometry.specs.Directions.{edges_of};
 ghost use Rattle.wrench_geometry.specs.Vectors.{difference_of};
 ghost use Rattle.wrench_geometry.specs.Wrenches.{AreImages, IsImage};
-ghost use Rattle.separation.specs.Directions.{IsAlong, IsDirection, Settles, SettlesDifferences};
-ghost use Rattle.separation.specs.Directions.{Spans};
+ghost use Rattle.separation.specs.Directions.{IsAlong, IsDirection, KeepsGreatest, Settles};
+ghost use Rattle.separation.specs.Directions.{SettlesDifferences, SettlesEdges, Spans};
 
 use arrayvec::ArrayVec;
-use plant_model::limits::{MOST_PIECE_POINTS, MOST_THRUST, MOST_THRUSTERS};
+use plant_model::limits::{MOST_PIECE_POINTS, MOST_THRUST};
 use std::marker::Model;
-use wrench_geometry::{MOST_TURN, Sums, Vec3, cross, difference, product};
+use wrench_geometry::{
+    Images, MOST_DIFFERENCES, MOST_DIRECTIONS, MOST_TURN, Sums, Vec3, cross, difference, product,
+};
 
 /// How far from 0 the forces of a difference of two images may be.
 pub const DIRECTION_FORCE: i64 = 2 * MOST_THRUST as i64;
@@ -20,12 +26,6 @@ pub const DIRECTION_MOMENT: i64 = 2 * MOST_TURN;
 pub const NORMAL_FORCE: i64 = 2 * DIRECTION_FORCE * DIRECTION_MOMENT;
 /// How far from 0 its component along the moment may be.
 pub const NORMAL_MOMENT: i64 = 2 * DIRECTION_FORCE * DIRECTION_FORCE;
-
-/// The differences of two points of a piece, of which the origin is one.
-const MOST_DIFFERENCES: usize = MOST_PIECE_POINTS * (MOST_PIECE_POINTS + 1) / 2;
-
-/// The directions of sums: the axes, and the differences of each list.
-const MOST_DIRECTIONS: usize = 3 + MOST_THRUSTERS * MOST_DIFFERENCES;
 
 /// Directions, each within the bounds of a difference of two images. Contracts see the list.
 #[derive(Drop)]
@@ -84,6 +84,42 @@ impl Directions {
         self.push(direction);
     }
 
+    /// Adds the directions of a list: the edges of a marked one, else all differences of its points. There is room for
+    /// `MOST_DIFFERENCES`.
+    fn add_list(&mut self, images: &Images)
+        requires room { length self.old + MOST_DIFFERENCES ≤ MOST_DIRECTIONS }
+        ensures kept { All (Contains self.new) self.old }
+        ensures greatest { KeepsGreatest self.new images.now }
+        ensures few { length self.new ≤ length self.old + directions_in images.now }
+        ensures few_at_all { length self.new ≤ length self.old + MOST_DIFFERENCES }
+    {
+        if images.is_fan() {
+            self.add_edges(images.as_slice());
+        } else {
+            self.add_differences(images.as_slice());
+        }
+    }
+
+    /// Adds the edges of the cycle of the origin and the points in order. There is room for `MOST_DIFFERENCES`.
+    fn add_edges(&mut self, points: &[Vec3])
+        requires room { length self.old + MOST_DIFFERENCES ≤ MOST_DIRECTIONS }
+        requires points { AreImages points.now }
+        requires fits { length points.now ≤ MOST_PIECE_POINTS }
+        ensures kept { All (Contains self.new) self.old }
+        ensures settled { SettlesEdges self.new points.now }
+        ensures few { length self.new ≤ length self.old + edges_of (length points.now) }
+    {
+        if points.is_empty() {
+            return;
+        }
+        let mut from = Vec3::default();
+        for point in points {
+            self.add(difference(*point, from));
+            from = *point;
+        }
+        self.add(from);
+    }
+
     /// Adds the points of a list, which are their differences with the origin, and the differences of each two of them.
     /// There is room for `MOST_DIFFERENCES`.
     fn add_differences(&mut self, points: &[Vec3])
@@ -92,7 +128,7 @@ impl Directions {
         requires fits { length points.now ≤ MOST_PIECE_POINTS }
         ensures kept { All (Contains self.new) self.old }
         ensures settled { SettlesDifferences self.new points.now }
-        ensures few { length self.new ≤ length self.old + MOST_DIFFERENCES }
+        ensures few { length self.new ≤ length self.old + differences_of (length points.now) }
     {
         for (place, point) in points.iter().enumerate() {
             self.add(*point);
@@ -124,14 +160,16 @@ impl Directions {
     }
 }
 
-/// The directions of the sums: the axes, and for each list the differences of its points, the origin among them.
+/// The directions of the sums: the axes, for each marked list the edges of its cycle, and for each other list the
+/// differences of its points, the origin among them. Of those along one line the first is taken.
 pub fn directions_of(sums: &Sums) -> Directions
     ensures span { Spans result }
-    ensures settled { All (SettlesDifferences result) sums.now }
+    ensures greatest { All (KeepsGreatest result) sums.now }
+    ensures few { length result ≤ directions_of sums.now }
 {
     let mut directions = Directions::axes();
     for images in sums.lists() {
-        directions.add_differences(images.as_slice());
+        directions.add_list(images);
     }
     directions
 }

@@ -4,8 +4,7 @@
 
 mod candidates;
 mod directions;
-mod reach;
 
-pub use candidates::least_cut;
+pub use candidates::{least_cut, least_cut_counted};
 pub use directions::{DIRECTION_FORCE, DIRECTION_MOMENT, NORMAL_FORCE, NORMAL_MOMENT};
 pub use wrench_geometry::{CUT_PARTS_BELOW, Cut};

@@ -14,6 +14,7 @@ use Rattle.int_ring.proofs.Machine.{machine}
 use Rattle.plant_model.specs.Numbers.{IsWithin}
 use Rattle.wrench_geometry.specs.declared.vector.Vec3.{Vec3}
 use Rattle.wrench_geometry.specs.Vectors.{dot_of, greatest_of, support_of, zero_vector}
+use Rattle.wrench_geometry.specs.Vertices.{IsShort}
 use Rattle.wrench_geometry.specs.Wrenches.{IsImage, image_at}
 use Rattle.wrench_geometry.proofs.Bounds.{within}
 
@@ -151,3 +152,41 @@ greatest_at_least w list = All-from_map list (greatest_of w list)
     All-from_map (v ∷ list) g h zero d p = h 0 (pos 0) (omega arith)
     All-from_map (v ∷ list) g h (suc k) d p =
         All-from_map list g (λ i e q. h (suc i) e (omega arith)) k d (omega arith)
+
+-- ---- the same for short vectors, in 64 bits
+
+pub short_product_within : (w v : Vec3) → IsShort w → IsImage v →
+    IsWithin (pos (2 ^ 57)) (dot_of w v)
+short_product_within w v a h = within (search machine depth 40) tt
+
+pub next_short_greatest : (w : Vec3) (list : List Vec3) (i : ℕ) (d : Vec3) (g m : ℤ) →
+    i < length list →
+    (g ≡ greatest_of w (take i list)) × (pos 0 ≤ℤ g) × (g ≤ℤ pos (2 ^ 57)) →
+    IsWithin (pos (2 ^ 57)) (dot_of w (get_or list i d)) →
+    m ≡ int_max g (dot_of w (get_or list i d)) →
+    (m ≡ greatest_of w (take (i + 1) list)) × (pos 0 ≤ℤ m) × (m ≤ℤ pos (2 ^ 57))
+next_short_greatest w list i d g m h k b e =
+    let low = k.1 in
+    let high = k.2 in
+    let below = b.high in (
+      e ∙ ap (λ (z : ℤ). int_max z (dot_of w (get_or list i d))) k.0
+          ∙ sym (greatest_more w list i d h),
+      omega (arith, linear, int_max_is),
+      omega
+          (arith, linear, int_max_is),
+    )
+
+pub next_short_support : (w : Vec3) (lists : List (List Vec3)) (i : ℕ) (d : List Vec3)
+    (t g m : ℤ) → i < length lists →
+    (t ≡ support_of (take i lists) w) × (pos 0 ≤ℤ t) × (t ≤ℤ pos (i * 2 ^ 57)) →
+    g ≡ greatest_of w (get_or lists i d) → pos 0 ≤ℤ g → g ≤ℤ pos (2 ^ 57) →
+    m ≡ t +ℤ g → (m ≡ support_of (take (i + 1) lists) w) × (pos 0 ≤ℤ m) ×
+    (m ≤ℤ pos ((i + 1) * 2 ^ 57))
+next_short_support w lists i d t g m h k e low high is =
+    let from = k.1 in
+    let to = k.2 in (
+      is ∙ ap₂ ◌+ℤ◌ k.0 e ∙ sym (support_more w lists i d h),
+      omega (arith, linear),
+      omega
+          (arith, linear),
+    )

@@ -3,3 +3,5 @@ pub mod Wrenches
 pub mod Cuts
 pub mod Vertices
 pub mod Chosen
+pub mod Fans
+pub mod Directions

@@ -4,17 +4,23 @@
 #![tactic(auto)]
 
 mod chosen;
+mod counting;
 mod cut;
+mod fans;
 mod lever;
 mod reach;
+mod steps;
 mod sums;
 mod vector;
 mod vertices;
 
 pub use chosen::sums_of;
+pub use counting::{MOST_DIFFERENCES, MOST_DIRECTIONS, directions};
 pub use cut::{CUT_PARTS_BELOW, Cut};
+pub use fans::{fan, pieces_are_fans};
 pub use lever::{MOST_TURN, image};
-pub use reach::{greatest, support};
+pub use reach::{greatest, support, support_counted};
+pub use steps::Steps;
 pub use sums::{Images, Sums};
 pub use vector::{MOST_FACTOR, MOST_PLAIN, Vec3, cross, difference, dot, opposite, sum};
 pub use vertices::{

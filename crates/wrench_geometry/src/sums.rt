@@ -1,47 +1,50 @@
 //! Lists of images, one list a thruster, and the sums of one image of each.
-ghost use Rattle.std.specs.Prelude.{◌≡◌, ◌<◌, ◌≤◌, [], ◌∷◌, ◌++◌, All, length};
-ghost use Rattle.wrench_geometry.specs.Wrenches.{IsImage, AreImages};
+ghost use Rattle.std.specs.Prelude.{◌≡◌, ◌<◌, ◌≤◌, [], ◌∷◌, ◌++◌, All, length, map};
+ghost use Rattle.plant_model.specs.declared.limits.TheConstants.{FARTHEST_LEVER, MOST_PIECE_POINTS};
+ghost use Rattle.plant_model.specs.declared.limits.TheConstants.{MOST_THRUST, MOST_THRUSTERS};
+ghost use Rattle.wrench_geometry.specs.Fans.{HaveOneLever, is_fan, thrust_of};
+ghost use Rattle.wrench_geometry.specs.Wrenches.{IsImage, IsPointWithin, AreImages, image_of};
 
+use crate::fans::is_fan;
+use crate::lever::image;
 use crate::vector::Vec3;
 use arrayvec::ArrayVec;
 use plant_model::limits::{MOST_PIECE_POINTS, MOST_THRUSTERS};
+use plant_model::thrust::Point;
 use std::marker::Model;
 
-/// The images of a piece's points, in order: 0 to `MOST_PIECE_POINTS`. They stand for the hull of
-/// themselves and the origin. Contracts see the list.
+/// The images of a piece's points at one lever, in order: 0 to `MOST_PIECE_POINTS`. They stand for
+/// the hull of themselves and the origin. Contracts see the list.
 #[derive(Drop)]
 pub struct Images {
     points: ArrayVec<Vec3, MOST_PIECE_POINTS>,
 }
 
 impl Model for Images {
-    ghost use Rattle.std.specs.Prelude.{List, All};
+    ghost use Rattle.std.specs.Prelude.{List};
     ghost use Rattle.wrench_geometry.specs.declared.vector.Vec3.{Vec3};
-    ghost use Rattle.wrench_geometry.specs.Wrenches.{IsImage};
+    ghost use Rattle.wrench_geometry.specs.Fans.{AreAtLever};
 
     ghost Value = { List Vec3 };
 
     ghost view = { λ images. images.points.items };
 
-    ghost invariant = { λ images. All IsImage images.points.items };
+    ghost invariant = { λ images. AreAtLever images.points.items };
 }
 
 impl Images {
-    pub fn new() -> Images
-        ensures { result ≡ [] }
+    /// The images of a piece's points at a lever. All of them are within the limits of a plant.
+    pub fn at(lever: Point, points: &[Point]) -> Images
+        requires lever { IsPointWithin FARTHEST_LEVER lever }
+        requires points { All (IsPointWithin MOST_THRUST) points.now }
+        requires fits { length points.now ≤ MOST_PIECE_POINTS }
+        ensures { result ≡ map (image_of lever) points.now }
     {
-        Images {
-            points: ArrayVec::new(),
+        let mut images = ArrayVec::new();
+        for point in points {
+            images.push(image(lever, *point));
         }
-    }
-
-    /// Adds an image at the end. There is room for it.
-    pub fn push(&mut self, image: Vec3)
-        requires room { length self.old < MOST_PIECE_POINTS }
-        requires image { IsImage image }
-        ensures { self.new ≡ self.old ++ image ∷ [] }
-    {
-        self.points.push(image);
+        Images { points: images }
     }
 
     pub fn as_slice(&self) -> &[Vec3]
@@ -50,6 +53,29 @@ impl Images {
         ensures fits { length result.now ≤ MOST_PIECE_POINTS }
     {
         &self.points
+    }
+
+    /// Whether the list is marked: whether its images are those of a fan. They are at one lever.
+    pub fn is_fan(&self) -> bool
+        ensures fan { result ≡ is_fan (map thrust_of self.now) }
+        ensures one_lever { HaveOneLever self.now }
+    {
+        let mut thrusts = ArrayVec::<Point, MOST_PIECE_POINTS>::new();
+        for image in self.points.as_slice() {
+            thrusts.push(thrust_of(*image));
+        }
+        is_fan(&thrusts)
+    }
+}
+
+/// The thrust of which a vector is the image.
+fn thrust_of(image: Vec3) -> Point
+    requires { IsImage image }
+    ensures { result ≡ thrust_of image }
+{
+    Point {
+        x: image.x as i32,
+        y: image.y as i32,
     }
 }
 
@@ -60,7 +86,9 @@ impl Default for Images {
     ghost is_default = { λ images. images ≡ [] };
 
     fn default() -> Self {
-        Images::new()
+        Images {
+            points: ArrayVec::new(),
+        }
     }
 }
 

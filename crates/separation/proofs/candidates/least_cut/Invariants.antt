@@ -1,10 +1,4 @@
-use Rattle.std.proofs.Common.{take}
-use Rattle.wrench_geometry.specs.Cuts.{IsCut}
-use Rattle.separation.proofs.LeastCuts.{IsAtMostPairs}
 use Rattle.separation.proofs.candidates.least_cut.Given as goal
 
-abbrev pub invariant-loop-place : goal.invariant-loop-place
-invariant-loop-place l = record {
-  parts : IsCut l.sums l.d l.least;
-  pairs : IsAtMostPairs l.sums l.d l.least (take l.place l.members);
-}
+abbrev pub ghosts-least_cut_from : goal.ghosts-least_cut_from
+ghosts-least_cut_from a = record { name = a.blank.name; parts = a.blank.parts }

@@ -9,13 +9,13 @@ use Rattle.separation.proofs.CutOrder.{along_trans, at_most_trans}
 use Rattle.separation.proofs.candidates.least_with.Goals as goal
 
 pub least_along-least-requires-clause-normal : goal.least_along-least-requires-clause-normal
-least_along-least-requires-clause-normal c =
+least_along-least-requires-clause-normal g c =
     subst IsNormal (sym c.cross.ensures)
     (cross_normal _ _ c.requires.direction
     (c.requires.others c.loop-other.other-index _ (omega arith)))
 
 pub loop-other-preserved : goal.loop-other-preserved
-loop-other-preserved c =
+loop-other-preserved g c =
     let sums = c.args.sums.now in
     let d = c.args.d in
     let before = c.loop-other.invariant in
@@ -35,10 +35,11 @@ loop-other-preserved c =
           c.loop-other.least after.cut.bottom_from_1 before.parts.bottom_from_1 after.at_most)
           (take c.loop-other.other-index c.args.others.now) before.at_most_others)
           (subst P c.cross.ensures after.at_most_normal);
+      steps = omega (arith, after.few_steps, before.steps);
     }
 
 pub returns-clause-at_most_others : goal.returns-clause-at_most_others
-returns-clause-at_most_others c =
+returns-clause-at_most_others g c =
     let along : Vec3 → Type 0 = λ other. IsAtMostAlong c.args.sums.now c.args.d c.loop-other.least
     (cross_of c.args.direction other) in
     All-same along c.args.others.now _

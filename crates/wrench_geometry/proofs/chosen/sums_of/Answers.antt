@@ -12,8 +12,8 @@ use Rattle.wrench_geometry.specs.Wrenches.{IsPointWithin}
 use Rattle.wrench_geometry.proofs.Limits.{lever_within, points_within}
 use Rattle.wrench_geometry.proofs.chosen.sums_of.Goals as goal
 
-pub images_at-images-requires-clause-lever : goal.images_at-images-requires-clause-lever
-images_at-images-requires-clause-lever c =
+pub at-images-requires-clause-lever : goal.at-images-requires-clause-lever
+at-images-requires-clause-lever c =
     let plant = c.args.plant.now in
     let t = c.index-thrusters-i.result in
     let items : c.as_slice-thrusters.result.now ≡ plant.thrusters.items =
@@ -25,8 +25,8 @@ images_at-images-requires-clause-lever c =
     subst (λ (t : Thruster). IsPointWithin FARTHEST_LEVER t.lever) (sym is)
     (lever_within plant c.parts.ensures.fit c.loop-i.i t there)
 
-pub images_at-images-requires-clause-points : goal.images_at-images-requires-clause-points
-images_at-images-requires-clause-points c =
+pub at-images-requires-clause-points : goal.at-images-requires-clause-points
+at-images-requires-clause-points c =
     let chosen = c.args.chosen.now in
     let p = c.index-pieces-i.result in
     let i = c.loop-i.i in

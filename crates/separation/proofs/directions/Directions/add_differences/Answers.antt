@@ -1,4 +1,4 @@
-use Rattle.std.proofs.Common.{◌≡◌, length, take, get_or, sym, subst, arith, List}
+use Rattle.std.proofs.Common.{◌≡◌, ℕ, ◌+◌, ◌*◌, ◌≤◌, length, take, get_or, sym, subst, arith, List}
 use Rattle.std.proofs.lemmas.List.{length-take-le, take_all, take_more}
 use Rattle.wrench_geometry.specs.declared.vector.Vec3.{Vec3}
 use Rattle.wrench_geometry.specs.Vectors.{zero_vector}
@@ -61,5 +61,8 @@ returns-clause-settled c =
     c.loop-place.invariant.settled
 
 pub returns-clause-few : goal.returns-clause-few
-returns-clause-few c = few_at_end (length c.args.self.now)
-    (length c.loop-place.self) c.loop-place.place c.loop-place.invariant.few (omega arith)
+returns-clause-few c =
+    let all : c.loop-place.place ≡ length c.args.points.now = omega arith in
+    few_at_end (length c.args.self.now) (length c.loop-place.self) (length c.args.points.now)
+    (subst (λ (p : ℕ). 2 * length c.loop-place.self ≤ 2 * length c.args.self.now + p * (p + 1)) all
+    c.loop-place.invariant.few)

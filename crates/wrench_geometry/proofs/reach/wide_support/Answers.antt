@@ -2,7 +2,7 @@ use Rattle.std.proofs.Common.{◌≡◌, ◌∙◌, ap, arith, get_or}
 use Rattle.std.proofs.lemmas.Int.{ints}
 use Rattle.wrench_geometry.specs.Vectors.{greatest_of}
 use Rattle.wrench_geometry.proofs.Supports.{next_support}
-use Rattle.wrench_geometry.proofs.reach.support.Goals as goal
+use Rattle.wrench_geometry.proofs.reach.wide_support.Goals as goal
 
 pub loop-images-preserved : goal.loop-images-preserved
 loop-images-preserved c =
