@@ -1,7 +1,7 @@
 -- What one more byte of a stream does to its items and to what is kept of its open line.
-use Rattle.std.proofs.Common.{◌≡◌, ℕ, ◌+◌, ◌<◌, ◌≤◌, List, [], ◌∷◌, ◌++◌, length}
+use Rattle.std.proofs.Common.{◌≡◌, ℕ, suc, ◌+◌, ◌<◌, ◌≤◌, List, [], ◌∷◌, ◌++◌, length}
 use Rattle.std.proofs.Common.{Bool, true, false, cond, ◌==◌, Option, Some, None, refl, ap, sym, ◌∙◌}
-use Rattle.std.proofs.Common.{arith, length-append, length-take}
+use Rattle.std.proofs.Common.{append_assoc, append-nil, arith, get_or, length-append, length-take}
 use Rattle.std.proofs.lemmas.Bool.Decides.{nat_tests}
 use Rattle.std.proofs.lemmas.List.Elements.{filter_map-append}
 use Rattle.std.specs.List.{filter_map, cons_option}
@@ -13,7 +13,7 @@ use Rattle.frame.specs.declared.item.Damage.TheVariants.{TooLong}
 use Rattle.frame.specs.declared.item.Item.{Item}
 use Rattle.frame.specs.declared.item.Item.TheVariants.{Damaged}
 use Rattle.frame.specs.Frames.{StandsFor, all_but_last, between_feeds, item_of_line}
-use Rattle.frame.specs.Frames.{items, kept, last_of, line_feed, open_line, whole_lines}
+use Rattle.frame.specs.Frames.{items, kept, kept_with, last_of, line_feed, open_line, whole_lines}
 use Rattle.frame.proofs.Lines.{all_but_last-append, last_of-append, slice_split-append_yes}
 use Rattle.frame.proofs.Lines.{slice_split-append_no, slice_split-parts}
 
@@ -145,3 +145,42 @@ StandsFor-push false bytes fed byte other room stands =
     omega (arith, length-append bytes (byte ∷ [])) in
     StandsFor-line (Some (bytes ++ byte ∷ [])) fed byte other
     (kept-short (bytes ++ byte ∷ []) short ∙ ap (λ (line : List ℕ). kept (line ++ byte ∷ [])) same)
+
+-- ---- more bytes of a line
+
+-- none of the bytes is a line feed
+abbrev pub HasNoFeed : List ℕ → Type 0
+HasNoFeed bytes = (k : ℕ) → k < length bytes → ¬ (get_or bytes k 0 ≡ line_feed)
+
+no_feed-head : (byte : ℕ) (more : List ℕ) → HasNoFeed (byte ∷ more) → ¬ (byte ≡ line_feed)
+no_feed-head byte more none = none 0 (omega arith)
+
+no_feed-tail : (byte : ℕ) (more : List ℕ) → HasNoFeed (byte ∷ more) → HasNoFeed more
+no_feed-tail byte more none = λ k less. none (suc k) (omega (arith, less))
+
+pub open_line-others : (fed more : List ℕ) → HasNoFeed more
+    → open_line (fed ++ more) ≡ open_line fed ++ more
+open_line-others fed [] none = ap open_line (append-nil fed) ∙ sym (append-nil (open_line fed))
+open_line-others fed (byte ∷ more) none =
+    ap open_line (sym (append_assoc fed (byte ∷ []) more))
+    ∙ open_line-others (fed ++ byte ∷ []) more (no_feed-tail byte more none)
+    ∙ ap (λ (line : List ℕ). line ++ more) (open_line-other fed byte (no_feed-head byte more none))
+    ∙ append_assoc (open_line fed) (byte ∷ []) more
+
+pub items-others : (fed more : List ℕ) → HasNoFeed more → items (fed ++ more) ≡ items fed
+items-others fed [] none = ap items (append-nil fed)
+items-others fed (byte ∷ more) none =
+    ap items (sym (append_assoc fed (byte ∷ []) more))
+    ∙ items-others (fed ++ byte ∷ []) more (no_feed-tail byte more none)
+    ∙ items-other fed byte (no_feed-head byte more none)
+
+-- bytes without a line feed go on with the open line
+pub StandsFor-with : (old : Option (List ℕ)) (fed more : List ℕ) → HasNoFeed more
+    → StandsFor old fed → StandsFor (kept_with old more) (fed ++ more)
+StandsFor-with None fed more none stands =
+    let long : MOST_LINE_BYTES < length (open_line fed) = kept-overlong (open_line fed) stands in
+    kept-long (open_line fed ++ more) (omega (arith, length-append (open_line fed) more))
+    ∙ ap kept (sym (open_line-others fed more none))
+StandsFor-with (Some line) fed more none stands =
+    ap (λ (front : List ℕ). kept (front ++ more)) (kept-is (open_line fed) line stands).0
+    ∙ ap kept (sym (open_line-others fed more none))

@@ -2,6 +2,7 @@
 use Rattle.std.specs.Prelude.{◌≡◌, ℕ, ◌+◌, ◌-◌, ◌*◌, ◌/◌, ◌%◌, ◌≤◌, List, [], ◌∷◌, ◌++◌, length}
 use Rattle.std.specs.Prelude.{take, drop, ◌&&◌, ◌==◌, nat_le, slice_index, Option, Some, None}
 use Rattle.std.specs.Prelude.{if◌then◌else◌, IsTrue, bit_xor}
+use Rattle.std.specs.Option.{option_to_list}
 use Rattle.std.specs.List.{slice_split, filter_map, fold}
 use Rattle.std.specs.Str.Lines.{strip_carriage_return}
 use Rattle.frame.specs.Bodies.{is_body, dollar, star}
@@ -153,6 +154,20 @@ kept line = if nat_le (length line) MOST_LINE_BYTES then Some line else None
 -- A framer that keeps this was fed these bytes, as far as what follows can tell.
 abbrev pub StandsFor : Option (List ℕ) → List ℕ → Type 0
 StandsFor framer fed = framer ≡ kept (open_line fed)
+
+-- what is kept of a line that goes on with these bytes
+abbrev pub kept_with : Option (List ℕ) → List ℕ → Option (List ℕ)
+kept_with None bytes = None
+kept_with (Some line) bytes = kept (line ++ bytes)
+
+-- A framer was fed the bytes but for those that are left, which complete the item or none.
+pub record FeedsFront (old new : Option (List ℕ)) (bytes : List ℕ) (item : Option Item)
+    (left : List ℕ) : Type 0 where
+  pub front : List ℕ
+  pub split : bytes ≡ front ++ left
+  pub gives : (fed : List ℕ) → StandsFor old fed
+      → items (fed ++ front) ≡ items fed ++ option_to_list item
+  pub stands : (fed : List ℕ) → StandsFor old fed → StandsFor new (fed ++ front)
 
 -- the hexadecimal digit of a number below 16, in upper case
 abbrev pub upper_digit : ℕ → ℕ

@@ -1,16 +1,18 @@
-//! The framer: fed the bytes of a stream one by one, it gives the stream's items.
-ghost use Rattle.std.specs.Prelude.{◌≡◌, List, ℕ, [], ◌∷◌, ◌++◌, Some};
+//! The framer: fed the bytes of a stream, it gives the stream's items.
+ghost use Rattle.std.specs.Prelude.{◌≡◌, ◌<◌, List, ℕ, [], ◌∷◌, ◌++◌, Some, length};
 ghost use Rattle.std.specs.Option.{option_to_list};
-ghost use Rattle.frame.specs.Frames.{StandsFor, items, items_end, item_of_line, line_feed};
+ghost use Rattle.frame.specs.Frames.{FeedsFront, StandsFor, items, items_end, item_of_line, kept_with};
+ghost use Rattle.frame.specs.Frames.{line_feed};
 
 use crate::item::{Damage, Item, MOST_FRAME_BYTES, item_of_content};
 use arrayvec::ArrayVec;
+use memchr::memchr;
 use std::marker::Model;
 
 /// The bytes of the longest frame, with its carriage return and without its line feed.
 const MOST_LINE_BYTES: usize = MOST_FRAME_BYTES + 1;
 
-/// Takes the bytes of a stream one by one, and gives the items of its lines.
+/// Takes the bytes of a stream, one by one or line by line, and gives the items of its lines.
 ///
 /// Contracts see what it keeps of the bytes since the last line feed: these bytes, or none where
 /// they are more than a frame and a carriage return can have.
@@ -71,6 +73,31 @@ impl Framer {
             self.line.push(byte);
         }
         None
+    }
+
+    /// Takes bytes up to the first line feed and with it, or all where none has come, and gives the item that they
+    /// complete. None where they complete none. The other bytes are left: fewer, where there were some.
+    pub fn feed_line<'b>(&mut self, bytes: &'b [u8]) -> (Option<Item>, &'b [u8])
+        ensures feeds { FeedsFront self.old self.new bytes.now result.0 result.1.now }
+        ensures fewer { 0 < length bytes.now → length result.1.now < length bytes.now }
+    {
+        match memchr(b'\n', bytes) {
+            Some(end) => {
+                self.keep(&bytes[..end]);
+                (self.end_line(), &bytes[end + 1..])
+            }
+            None => {
+                self.keep(bytes);
+                (None, &[])
+            }
+        }
+    }
+
+    /// Keeps more bytes of the line, as far as it isn't too long with them.
+    fn keep(&mut self, bytes: &[u8])
+        ensures { self.new ≡ kept_with self.old bytes.now }
+    {
+        self.overlong |= self.line.try_extend_from_slice(bytes).is_err();
     }
 
     /// The item of the line that a line feed ends. The next line has no byte yet.

@@ -1,12 +1,12 @@
 -- What is written as items come, and where writing stops.
-use Rattle.std.proofs.Common.{◌≡◌, ℕ, ◌+◌, ◌<◌, ◌≤◌, List, [], ◌∷◌, ◌++◌, length, take, drop}
-use Rattle.std.proofs.Common.{get_or, Option, Some, None, Bool, true, false, ◌==◌, refl, sym, ap}
+use Rattle.std.proofs.Common.{◌≡◌, ℕ, ◌+◌, ◌≤◌, List, [], ◌∷◌, ◌++◌, length, take, drop}
+use Rattle.std.proofs.Common.{Option, Some, None, Bool, true, false, ◌==◌, refl, sym, ap}
 use Rattle.std.proofs.Common.{Result, Ok, Err}
 use Rattle.std.proofs.Common.{subst, ◌∙◌, append_assoc, arith}
 use Rattle.std.specs.Option.{option_to_list, IfSome}
 use Rattle.std.proofs.Math.Seq.{take-append-add}
 use Rattle.std.proofs.lemmas.Bool.Decides.{nat_tests}
-use Rattle.std.proofs.lemmas.List.{append-nil, take_more, take-append-drop, take-take}
+use Rattle.std.proofs.lemmas.List.{append-nil, take-append-drop, take-take}
 use Rattle.dp_io.specs.Shown.{NoneFailed, Shown, Took}
 use Rattle.dp_io.specs.Streams.{Gave, Grew}
 use Rattle.dp_io.specs.declared.stream.Failed.{Failed}
@@ -94,13 +94,6 @@ items-front front (byte ∷ back) =
           ∙ ap (λ (xs : List Item). xs ++ rest.0) one.1 ∙ append_assoc (items front) one.0 rest.0,
     )
 
--- the bytes fed and one more of a piece
-pub fed-more : (fed bytes : List ℕ) (i : ℕ) → i < length bytes
-    → fed ++ take (i + 1) bytes ≡ (fed ++ take i bytes) ++ get_or bytes i 0 ∷ []
-fed-more fed bytes i h =
-    ap (λ (t : List ℕ). fed ++ t) (take_more bytes i 0 h)
-    ∙ sym (append_assoc fed (take i bytes) (get_or bytes i 0 ∷ []))
-
 -- the damage of a stream that ends within a line
 abbrev ends-with : List ℕ → List Item
 ends-with bytes = if length (open_line bytes) == 0 then [] else Damaged Cut ∷ []
@@ -137,43 +130,51 @@ stops-at report start out watch all item has front = record {
       (take front.count (written_for report (references all) (heard item))) has.wrote front.took;
 }
 
--- ---- one byte
+-- ---- more bytes
+
+-- the bytes that were fed of a piece, more of it, and what is left
+pub piece-more : (bytes taken front left rest : List ℕ) → taken ++ rest ≡ bytes → rest ≡ front ++ left
+    → (taken ++ front) ++ left ≡ bytes
+piece-more bytes taken front left rest is split =
+    append_assoc taken front left ∙ ap (λ (t : List ℕ). taken ++ t) (sym split) ∙ is
+
+-- all was fed where nothing is left
+pub piece-whole : (taken rest bytes : List ℕ) → length rest ≡ 0 → taken ++ rest ≡ bytes → taken ≡ bytes
+piece-whole taken [] bytes none is = sym (append-nil taken) ∙ is
+piece-whole taken (byte ∷ rest) bytes none is = absurd (omega (arith, none))
 
 -- the items of the bytes fed, of those before the next, and of all of a piece
-pub stops-among : (report : Bool) (start now : Option (List ℕ)) (fed bytes : List ℕ) (i : ℕ)
-    (item : Item) → i < length bytes
-    → items ((fed ++ take i bytes) ++ get_or bytes i 0 ∷ [])
-    ≡ items (fed ++ take i bytes) ++ item ∷ []
-    → StopsAt report start now (items (fed ++ take i bytes)) item
+pub stops-among : (report : Bool) (start now : Option (List ℕ))
+    (fed bytes taken front left : List ℕ) (item : Item) → (taken ++ front) ++ left ≡ bytes
+    → items ((fed ++ taken) ++ front) ≡ items (fed ++ taken) ++ item ∷ []
+    → StopsAt report start now (items (fed ++ taken)) item
     → StopsAmong report start now (items (fed ++ bytes)) (items fed)
-stops-among report start now fed bytes i item h gave stops =
-    let front : List ℕ = fed ++ take i bytes in
-    let so_far = items-front fed (take i bytes) in
-    let split : fed ++ bytes ≡ (front ++ get_or bytes i 0 ∷ []) ++ drop (i + 1) bytes =
-    ap (λ (t : List ℕ). fed ++ t) (sym (take-append-drop (i + 1) bytes))
-    ∙ sym (append_assoc fed (take (i + 1) bytes) (drop (i + 1) bytes))
-    ∙ ap (λ (t : List ℕ). t ++ drop (i + 1) bytes) (fed-more fed bytes i h) in
-    let rest = items-front (front ++ get_or bytes i 0 ∷ []) (drop (i + 1) bytes) in
+stops-among report start now fed bytes taken front left item is gave stops =
+    let so_far = items-front fed taken in
+    let split : fed ++ bytes ≡ ((fed ++ taken) ++ front) ++ left =
+    ap (λ (t : List ℕ). fed ++ t) (sym is)
+    ∙ sym (append_assoc fed (taken ++ front) left)
+    ∙ ap (λ (t : List ℕ). t ++ left) (sym (append_assoc fed taken front)) in
+    let rest = items-front ((fed ++ taken) ++ front) left in
     record {
       answered = so_far.0;
       item = item;
       rest = rest.0;
       among = ap items split ∙ rest.1 ∙ ap (λ (xs : List Item). xs ++ rest.0) gave
-          ∙ append_assoc (items front) (item ∷ []) rest.0
+          ∙ append_assoc (items (fed ++ taken)) (item ∷ []) rest.0
           ∙ ap (λ (xs : List Item). xs ++ item ∷ rest.0) so_far.1;
       stops = subst (λ (xs : List Item). StopsAt report start now xs item) so_far.1 stops;
     }
 
--- what one byte gave was heard and written
-pub written-byte : (report : Bool) (start now : Option (List ℕ)) (watch : Watch)
-    (fed bytes : List ℕ) (i : ℕ) (given : List Item) → i < length bytes
-    → items ((fed ++ take i bytes) ++ get_or bytes i 0 ∷ [])
-    ≡ items (fed ++ take i bytes) ++ given
-    → HasWritten report start now watch (items (fed ++ take i bytes) ++ given)
-    → HasWritten report start now watch (items (fed ++ take (i + 1) bytes))
-written-byte report start now watch fed bytes i given h gave has =
+-- what more bytes gave was heard and written
+pub written-part : (report : Bool) (start now : Option (List ℕ)) (watch : Watch)
+    (fed taken front : List ℕ) (given : List Item)
+    → items ((fed ++ taken) ++ front) ≡ items (fed ++ taken) ++ given
+    → HasWritten report start now watch (items (fed ++ taken) ++ given)
+    → HasWritten report start now watch (items (fed ++ (taken ++ front)))
+written-part report start now watch fed taken front given gave has =
     subst (λ (xs : List Item). HasWritten report start now watch xs)
-    (sym (ap items (fed-more fed bytes i h) ∙ gave)) has
+    (sym (ap items (sym (append_assoc fed taken front)) ∙ gave)) has
 
 -- ---- the stream
 

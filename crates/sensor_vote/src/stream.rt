@@ -50,8 +50,11 @@ fn take_bytes<S: Sink>(
         → StopsAmong report start (S.taken out.new) (items (fed ++ bytes.now)) (items fed)) }
     ensures failed { OnErr result (HasRisen (writing S.Sink out.old out.new)) }
 {
-    for byte in bytes {
-        if let Some(item) = framer.feed(*byte) {
+    let mut rest = bytes;
+    while !rest.is_empty() {
+        let (item, left) = framer.feed_line(rest);
+        rest = left;
+        if let Some(item) = item {
             watch.tell(report, item, out)?;
         }
     }
