@@ -3,3 +3,4 @@ pub mod Greatest
 pub mod Resting
 pub mod Paths
 pub mod Limits
+pub mod Sheltered

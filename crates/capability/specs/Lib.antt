@@ -1,3 +1,4 @@
 pub mod Reserves
 pub mod Paths
 pub mod Limits
+pub mod Shelters

@@ -1,17 +1,23 @@
 //! What is asked of the thrusters as the wind grows.
-ghost use Rattle.std.specs.Prelude.{◌≡◌, ◌-ℤ◌, ◌<◌, ◌↔◌, All, IfNone, IfSome, IsTrue, length};
+ghost use Rattle.std.specs.Prelude.{◌≡◌, ◌-ℤ◌, ◌<◌, ◌↔◌, All, IfNone, IfSome, IsSomeAnd};
+ghost use Rattle.std.specs.Prelude.{IsTrue, length};
 ghost use Rattle.plant_model.specs.Numbers.{IsWithin};
 ghost use Rattle.plant_model.specs.Versions.{IsDemand};
 ghost use Rattle.plant_model.specs.declared.limits.TheConstants.{WHOLE_TURN};
 ghost use Rattle.redundancy_groups.specs.Standing.{IsLossOf};
 ghost use Rattle.wind_axes.specs.Wind.{wind_load};
+ghost use Rattle.wrench_geometry.specs.Vectors.{IsVectorWithin};
+ghost use Rattle.wrench_geometry.specs.declared.vector.TheConstants.{MOST_PLAIN};
+ghost use Rattle.exit_point.specs.Tents.{Covers};
 ghost use Rattle.certificate.specs.Losses.{demand_of, question_after};
 ghost use Rattle.certificate.specs.Outcomes.{IsFeasible, question_of};
 ghost use Rattle.capability.specs.Paths.{IsMetUpTo, IsPath, demand_at, less};
+ghost use Rattle.capability.specs.Shelters.{IsShelter};
 
 use arrayvec::ArrayVec;
-use certificate::Outcome;
-use feasibility::verdict;
+use certificate::{Outcome, ahead, vector_of};
+use exit_point::Tent;
+use feasibility::{tent_in, verdict};
 use plant_model::limits::{MOST_FORCE, MOST_MOMENT, MOST_WIND_SPEED};
 use plant_model::plant::Plant;
 use plant_model::status::{Loss, Status};
@@ -19,6 +25,7 @@ use plant_model::wrench::{Load, Wrench};
 use redundancy_groups::surviving;
 use thrust_region::Regions;
 use wind_axes::wind_force;
+use wrench_geometry::Vec3;
 
 /// The whole wind speeds from 0 to the greatest, in dm/s.
 pub const SPEEDS: usize = MOST_WIND_SPEED as usize + 1;
@@ -84,6 +91,13 @@ pub fn met_up_to(plant: &Plant, status: &Status, loss: Loss, path: &[Wrench]) ->
     first_unmet(plant, &surviving(plant, status, loss), path)
 }
 
+/// What met the last demand that was met: a choice, and the tent of it, if there is one.
+#[derive(Clone, Copy)]
+pub struct Shelter {
+    pub choice: u32,
+    pub tent: Option<Tent>,
+}
+
 /// The place of the first demand that the regions don't meet, or the count of demands. There are a
 /// region and a fixed thrust for each thruster, and the demands are within their limits.
 fn first_unmet(plant: &Plant, regions: &Regions, path: &[Wrench]) -> usize
@@ -93,21 +107,53 @@ fn first_unmet(plant: &Plant, regions: &Regions, path: &[Wrench]) -> usize
     ensures { IsMetUpTo (λ demand. question_of plant.now regions.now (demand_of demand)) path.now
         result }
 {
+    let mut shelter = Shelter {
+        choice: 0,
+        tent: None,
+    };
     for (speed, demand) in path.iter().enumerate() {
-        if !meets(plant, regions, *demand) {
+        if !meets(plant, regions, *demand, &mut shelter) {
             return speed;
         }
     }
     path.len()
 }
 
-/// Whether the regions meet the demand, which is within its limits.
-fn meets(plant: &Plant, regions: &Regions, demand: Wrench) -> bool
+/// Whether the regions meet the demand, which is within its limits. Of neighbouring demands nearly
+/// all lie in the tent of the one before, and most of the others are met by the same choice.
+fn meets(plant: &Plant, regions: &Regions, demand: Wrench, shelter: &mut Shelter) -> bool
     requires region_each { length regions.now.list.items ≡ length plant.now.thrusters.items }
     requires fixed_each { length regions.now.fixed.items ≡ length plant.now.thrusters.items }
     requires demand { IsDemand demand }
-    ensures { IsTrue result
+    requires shelter { IsShelter plant.now regions.now shelter.old }
+    ensures met { IsTrue result
         ↔ IsFeasible (question_of plant.now regions.now (demand_of demand)) }
+    ensures shelter { IsShelter plant.now regions.now shelter.new }
 {
-    matches!(verdict(plant, regions, demand), Outcome::Holds { .. })
+    let ahead = ahead(plant, regions, vector_of(demand));
+    if is_covered(&shelter.tent, ahead) {
+        return true;
+    }
+    shelter.tent = tent_in(plant, regions, shelter.choice, ahead);
+    if is_covered(&shelter.tent, ahead) {
+        return true;
+    }
+    match verdict(plant, regions, demand) {
+        Outcome::Holds { choice, .. } => {
+            shelter.choice = choice;
+            true
+        }
+        Outcome::Lost { .. } => false,
+    }
+}
+
+/// Whether there is a tent that covers the vector.
+fn is_covered(tent: &Option<Tent>, ahead: Vec3) -> bool
+    requires { IsVectorWithin MOST_PLAIN MOST_PLAIN ahead }
+    ensures { IsTrue result → IsSomeAnd tent.now (λ tent. Covers tent ahead) }
+{
+    match tent {
+        Some(tent) => tent.covers(ahead),
+        None => false,
+    }
 }

@@ -146,7 +146,7 @@ cramer_z : (d a b c : Vec3) →
 cramer_z d a b c = ring (d.x ∷ d.y ∷ d.z ∷ a.x ∷ a.y ∷ a.z ∷ b.x ∷ b.y ∷ b.z ∷ c.x ∷ c.y ∷ c.z ∷ [])
     (search reads depth 40) refl
 
-cramer : (d a b c : Vec3) (s : Shares) → s.first ≡ det_of d b c → s.second ≡ det_of d c a →
+pub cramer : (d a b c : Vec3) (s : Shares) → s.first ≡ det_of d b c → s.second ≡ det_of d c a →
     s.third ≡ det_of d a b → shared s a b c ≡ scaled_by (det_of a b c) d
 cramer d a b c s e f g = together e f g ∙ same_vector (cramer_x d a b c) (cramer_y d a b c)
     (cramer_z d a b c)

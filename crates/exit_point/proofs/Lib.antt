@@ -17,3 +17,4 @@ pub mod Compared
 pub mod FaceDirections
 pub mod EdgeEnds
 pub mod Ends
+pub mod Covered

@@ -25,7 +25,7 @@ shared_part : (p q r a b c d e f : ℤ) →
 shared_part p q r a b c d e f = ring (p ∷ q ∷ r ∷ a ∷ b ∷ c ∷ d ∷ e ∷ f ∷ [])
     (search reads depth 40) refl
 
-shared-sum : (s : Shares) (a b c d e f : Vec3) →
+pub shared-sum : (s : Shares) (a b c d e f : Vec3) →
     shared s (sum_of a d) (sum_of b e) (sum_of c f) ≡ sum_of (shared s a b c) (shared s d e f)
 shared-sum s a b c d e f =
     same_vector (shared_part s.first s.second s.third a.x b.x c.x d.x e.x f.x)
@@ -35,7 +35,7 @@ shared-sum s a b c d e f =
 nothing_shared : (p q r : ℤ) → pos 0 ≡ p *ℤ pos 0 +ℤ q *ℤ pos 0 +ℤ r *ℤ pos 0
 nothing_shared p q r = ring (p ∷ q ∷ r ∷ []) (search reads depth 40) refl
 
-shared-zero : (s : Shares) → zero_vector ≡ shared s zero_vector zero_vector zero_vector
+pub shared-zero : (s : Shares) → zero_vector ≡ shared s zero_vector zero_vector zero_vector
 shared-zero s = same_vector (nothing_shared s.first s.second s.third)
     (nothing_shared s.first s.second s.third) (nothing_shared s.first s.second s.third)
 

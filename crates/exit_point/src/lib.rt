@@ -13,8 +13,10 @@ mod face_cuts;
 mod orders;
 pub mod portal;
 mod search;
+mod tents;
 mod weights;
 
+pub use tents::{Tent, tent_about};
 pub use weights::{ExitWeights, MOST_WEIGHT, MOST_WEIGHTS};
 use wrench_geometry::{Sums, Vec3};
 

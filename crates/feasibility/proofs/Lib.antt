@@ -7,3 +7,4 @@ pub mod Steps
 pub mod Beyond
 pub mod First
 pub mod Spreads
+pub mod Sheltered

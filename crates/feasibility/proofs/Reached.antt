@@ -109,7 +109,7 @@ reduced_as {q} {x} {r} {s} {thrusts} {others} {lowest} e f h reduced =
     (subst (λ (l : List Thrust). AreReduced x l r lowest) f
     (subst (λ (n : ℤ). AreReduced n thrusts r lowest) e reduced))
 
-back_together : (t : ℤ) (demand fixed : Vec3) →
+pub back_together : (t : ℤ) (demand fixed : Vec3) →
     sum_of (scaled_by t (difference_of demand fixed)) (scaled_by t fixed) ≡ scaled_by t demand
 back_together t demand fixed = same_vector (along demand.x fixed.x) (along demand.y fixed.y)
     (along demand.z fixed.z)

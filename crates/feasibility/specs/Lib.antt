@@ -5,3 +5,4 @@ pub mod Steps
 pub mod Beyond
 pub mod First
 pub mod Spreads
+pub mod Tents

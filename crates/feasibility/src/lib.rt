@@ -9,8 +9,10 @@ pub mod mean;
 mod outside;
 mod step;
 mod subtrees;
+mod tents;
 
 pub use analysis::{analyse, verdict};
 pub use choosing::choose;
 pub use step::{cut_off, held};
 pub use subtrees::{cut_off_from, spread};
+pub use tents::tent_in;
