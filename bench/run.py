@@ -22,12 +22,11 @@ import subprocess
 import sys
 import tempfile
 import time
-from collections.abc import Iterator
 
 from plants import greatest_plant
 from program import PROGRAM, build
-from streams import frame
-from watch import SECONDS
+from streams import frame, sensors_at
+from watch import orders_at, telegrams
 
 WORKERS = ["--workers", "2"]
 RUNS = 5
@@ -45,13 +44,6 @@ MOST_LATE_WAIT = 0.5
 MOST_LATE_SECONDS = 0.001
 MOST_MEDIAN_WAIT = 1.5
 MOST_MEBIBYTES = 2048
-
-
-def sensors_of_the_watch() -> Iterator[bytes]:
-    for k in range(1, SECONDS + 1):
-        yield frame(f"POS,{1000 * k},{37 * k % 101 - 50},{53 * k % 89 - 44},0")
-        if k % 10 == 0:
-            yield frame(f"WND,{1000 * k},120,0")
 
 
 def position(k: int) -> bytes:
@@ -81,16 +73,13 @@ def measured(words: list) -> tuple[int, float, float]:
 
 def watch_ratios(folder: pathlib.Path) -> tuple[float, float]:
     """How many times the wall time and the memory of `replay` the watch takes as two streams."""
-    sensors, operators, telegrams = (folder / name for name in ("sensors", "operators", "telegrams"))
-    orders = {3_600: frame("TIE,T1,CLOSE"), 7_200: frame("TIE,T1,OPEN")}
-    stream = list(sensors_of_the_watch())
-    sensors.write_bytes(b"".join(stream))
-    operators.write_bytes(b"".join(orders.values()))
-    telegrams.write_bytes(b"".join(it + orders.get(k, b"") for k, it in enumerate(stream)))
+    sensors, operators, all_of_it = (folder / name for name in ("sensors", "operators", "telegrams"))
+    for path, said in ((sensors, [sensors_at]), (operators, [orders_at]), (all_of_it, [sensors_at, orders_at])):
+        path.write_bytes(b"".join(telegrams(*said)))
     times: dict[str, list[float]] = {"run": [], "replay": []}
     peaks: dict[str, list[float]] = {"run": [], "replay": []}
     for _ in range(RUNS):
-        for name, words in (("replay", ["replay", "demo", telegrams]), ("run", ["run", "demo", sensors, operators, *WORKERS])):
+        for name, words in (("replay", ["replay", "demo", all_of_it]), ("run", ["run", "demo", sensors, operators, *WORKERS])):
             status, seconds, mebibytes = measured(words)
             assert status == 0, (name, status)
             times[name].append(seconds)

@@ -30,11 +30,19 @@ def switching(count: int) -> bytes:
     return b"".join(open_ if place % 2 else close for place in range(count))
 
 
+def position(second: int) -> bytes:
+    """A position about the set point of the demo plant, at this second."""
+    return frame(f"POS,{1000 * second},{37 * second % 101 - 50},{53 * second % 89 - 44},0")
+
+
 def positions(count: int) -> bytes:
     """That many positions, a second apart, at which the vessel moves about the set point."""
-    return b"".join(
-        frame(f"POS,{1000 * k},{37 * k % 101 - 50},{53 * k % 89 - 44},0") for k in range(1, count + 1)
-    )
+    return b"".join(map(position, range(1, count + 1)))
+
+
+def sensors_at(second: int) -> list[bytes]:
+    """What the sensors of a watch say at this second: a position, and every ten seconds a wind."""
+    return [position(second)] + ([frame(f"WND,{1000 * second},120,0")] if second % 10 == 0 else [])
 
 
 def time_telegrams(name: str, stream: Callable[[int], bytes], path: pathlib.Path) -> None:

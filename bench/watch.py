@@ -14,10 +14,10 @@ import re
 import subprocess
 import sys
 import tempfile
-from collections.abc import Iterator
+from collections.abc import Callable
 
 from program import PROGRAM, build, peak_mebibytes, user_seconds
-from streams import frame
+from streams import frame, sensors_at
 
 RUNS = 5
 SECONDS = 14_400
@@ -30,15 +30,14 @@ MOST_MEBIBYTES = 250
 MOST_GROWTH = 1.5
 
 
-def telegrams() -> Iterator[bytes]:
-    for k in range(1, SECONDS + 1):
-        yield frame(f"POS,{1000 * k},{37 * k % 101 - 50},{53 * k % 89 - 44},0")
-        if k % 10 == 0:
-            yield frame(f"WND,{1000 * k},120,0")
-        if k == 3_600:
-            yield frame("TIE,T1,CLOSE")
-        if k == 7_200:
-            yield frame("TIE,T1,OPEN")
+def orders_at(second: int) -> list[bytes]:
+    """What the operators say at this second."""
+    return {3_600: [frame("TIE,T1,CLOSE")], 7_200: [frame("TIE,T1,OPEN")]}.get(second, [])
+
+
+def telegrams(*said: Callable[[int], list[bytes]]) -> list[bytes]:
+    """What these say in the watch, at each second one after the other."""
+    return [telegram for second in range(1, SECONDS + 1) for at in said for telegram in at(second)]
 
 
 def written(words: list) -> bytes:
@@ -53,7 +52,7 @@ def entries_in(text: bytes) -> int:
 
 def main() -> int:
     build()
-    stream = list(telegrams())
+    stream = telegrams(sensors_at, orders_at)
     with tempfile.TemporaryDirectory() as folder:
         path = pathlib.Path(folder) / "telegrams"
         words = ["replay", "demo", path]
