@@ -15,7 +15,7 @@ from matplotlib.projections.polar import PolarAxes
 from . import drawing
 from .drawing import INK, LETTERS, PALE, fill_of, hatch_of
 from .reading import NAME, NUMBER, OUTCOME_TEXT, Lines, numbers
-from .words import demand_text, percent_down
+from .words import demand_text
 
 ANGLES = range(0, 36_000, 1_000)
 MOST_SPEED = 1_000
@@ -96,32 +96,50 @@ def told(loss: str) -> str:
     return loss if loss == INTACT else f"GROUP,{re.escape(loss)}"
 
 
-WIDTH, HEIGHT, SIDE, TOP = 9.6, 7.2, 6.1, 0.72
+WIDTH, HEIGHT, SIDE = 9.6, 7.2, 6.1
+# How far out the cells with the letters of losses stand, and the angles, in parts of the outermost ring.
+CELLS, CELL, ROUND = 1.06, 0.1, 1.24
+WHITE = {"facecolor": "white", "edgecolor": "none", "pad": 0.8, "alpha": 0.9}
+OF_PLOT = "rings: wind speed in m/s\nangles: where the wind comes from"
 
 
 def picture(capability: Capability, name: str | None) -> Figure:
     """The plot, with the plant's name where it is known."""
     figure = drawing.new_figure(WIDTH, HEIGHT)
-    title = f"{name}: capability" if name else "Capability"
-    figure.text(0.2 / WIDTH, 1 - 0.12 / HEIGHT, title, fontsize=13, va="top", gid="title")
-    demand = f"wind that all losses leave, beside a demand of {demand_text(capability.demand)}"
-    figure.text(0.2 / WIDTH, 1 - 0.42 / HEIGHT, demand, fontsize=9, va="top", gid="demand")
-    box = (0.35 / WIDTH, 0.4 / HEIGHT, SIDE / WIDTH, SIDE / HEIGHT)
+    left = 0.2 / WIDTH
+    title = f"{name}: DP capability" if name else "DP capability"
+    figure.text(left, 1 - 0.12 / HEIGHT, title, fontsize=13, va="top", gid="title")
+    figure.text(left, 1 - 0.42 / HEIGHT, heading(capability), fontsize=9, va="top", linespacing=1.3, gid="demand")
+    box = (0.35 / WIDTH, 0.32 / HEIGHT, SIDE / WIDTH, SIDE / HEIGHT)
     rose(figure.add_axes(box, projection="polar"), capability)
-    beside(figure.add_axes((6.65 / WIDTH, 0.3 / HEIGHT, 2.8 / WIDTH, (HEIGHT - 1.1) / HEIGHT)), capability)
+    figure.text(left, 0.14 / HEIGHT, OF_PLOT, fontsize=7, va="bottom", linespacing=1.35)
+    beside(figure.add_axes((6.65 / WIDTH, 0.3 / HEIGHT, 2.8 / WIDTH, (HEIGHT - 1.3) / HEIGHT)), capability)
     return figure
 
 
-def places_of(capability: Capability) -> dict[str, int]:
-    """The place of each loss that gives way, by which it is filled; the intact plant comes last."""
-    names = [name for name, _ in capability.reserves]
-    return {name: k for k, name in enumerate([*names[1:], names[0]])}
+def heading(capability: Capability) -> str:
+    what = "Greatest wind that is held with nothing lost and after the loss of any one redundancy group"
+    return f"{what}\nbeside a demand of {demand_text(capability.demand)}"
+
+
+def look_of(capability: Capability, loss: str | None) -> dict:
+    """How a loss's cells are filled. The intact plant's are plain and dark, and white is where nothing gives way."""
+    if loss is None:
+        return {"facecolor": "white"}
+    if loss == INTACT:
+        return {"facecolor": "#8c8c8c"}
+    place = place_of(capability, loss)
+    return {"facecolor": fill_of(place), "hatch": hatch_of(place)}
+
+
+def place_of(capability: Capability, group: str) -> int:
+    return [name for name, _ in capability.reserves[1:]].index(group)
 
 
 def letter_of(capability: Capability, loss: str | None) -> str:
     if loss is None:
         return "–"
-    return "I" if loss == INTACT else LETTERS[places_of(capability)[loss]]
+    return "int" if loss == INTACT else LETTERS[place_of(capability, loss)]
 
 
 def rings_of(capability: Capability) -> tuple[float, float]:
@@ -134,62 +152,63 @@ def rings_of(capability: Capability) -> tuple[float, float]:
 def rose(axes: PolarAxes, capability: Capability) -> None:
     """The polar plot: the bow is up, angles go clockwise."""
     outer, step = rings_of(capability)
+    rings = [k * step for k in range(1, round(outer / step) + 1)]
     axes.set_theta_zero_location("N")
     axes.set_theta_direction(-1)
-    axes.set_ylim(0, 1.26 * outer)
+    axes.set_ylim(0, (ROUND + 0.05) * outer)
     axes.spines["polar"].set_visible(False)
     axes.grid(False)
     axes.set_xticks([])
     axes.set_yticks([])
     turn = [math.radians(k) for k in range(361)]
-    for k in range(1, round(outer / step) + 1):
-        axes.plot(turn, [k * step] * len(turn), color=PALE, linewidth=0.5, zorder=0.5)
+    for ring in rings:
+        axes.plot(turn, [ring] * len(turn), color=PALE, linewidth=0.5, zorder=0.5)
     for degrees in range(0, 360, 30):
         at = math.radians(degrees)
         axes.plot([at, at], [0, outer], color=PALE, linewidth=0.4, zorder=0.5)
         text = {0: "bow", 90: "starboard", 180: "stern", 270: "port"}.get(degrees, f"{degrees}°")
         turned = {90: -90, 270: 90}.get(degrees, 0)
-        axes.text(at, 1.21 * outer, text, fontsize=8, ha="center", va="center", rotation=turned)
+        axes.text(at, ROUND * outer, text, fontsize=8, ha="center", va="center", rotation=turned)
     cells(axes, capability, outer)
     limits(axes, capability, outer)
-    for k in range(1, round(outer / step) + 1):
-        label = f"{k * step:g} m/s" if k == round(outer / step) else f"{k * step:g}"
-        axes.text(math.radians(15), k * step, label, fontsize=7, ha="center", va="center", bbox=WHITE, zorder=6)
+    at = math.radians(clear_angle(capability, rings))
+    for ring in rings:
+        axes.text(at, ring, f"{ring:g}", fontsize=7, ha="center", va="center", bbox=WHITE, zorder=6, gid=f"ring {ring:g}")
+    # A round clip's name in an SVG is another in each run, and nothing reaches beyond it.
+    for it in axes.get_children():
+        it.set_clip_on(False)
 
 
-WHITE = {"facecolor": "white", "edgecolor": "none", "pad": 0.8, "alpha": 0.9}
+def clear_angle(capability: Capability, rings: list[float]) -> int:
+    """The angle, between those that are decided, at which the rings' labels stand clearest of the curve; the first
+    where several are clear."""
+    ends = [point_at(it.angle / 100, (it.speed or 0) / 10) for it in capability.limits]
+    curve = [
+        (a[0] + part * (b[0] - a[0]), a[1] + part * (b[1] - a[1]))
+        for a, b in zip(ends, [*ends[1:], ends[0]])
+        for part in (0, 0.25, 0.5, 0.75)
+    ]
+
+    def clearance(degrees: int) -> float:
+        labels = [point_at(degrees, ring) for ring in rings]
+        return min(0.08 * rings[-1], *(math.dist(label, point) for label in labels for point in curve))
+
+    return max(range(15, 360, 30), key=clearance)
+
+
+def point_at(degrees: float, speed: float) -> tuple[float, float]:
+    return speed * math.sin(math.radians(degrees)), speed * math.cos(math.radians(degrees))
 
 
 def cells(axes: Axes, capability: Capability, outer: float) -> None:
     """Outside of the rings a cell for each angle, with the letter of the loss that gives way first."""
-    places = places_of(capability)
     for it in capability.limits:
-        at = math.radians(it.angle / 100)
-        look = {"facecolor": "white"}
-        if it.loss is not None:
-            look = {"facecolor": fill_of(places[it.loss]), "hatch": hatch_of(places[it.loss])}
-        axes.bar(
-            [at],
-            [0.1 * outer],
-            width=math.radians(10),
-            bottom=1.03 * outer,
-            edgecolor=INK,
-            linewidth=0.4,
-            zorder=2,
-            **look,
-        )
+        at, middle = math.radians(it.angle / 100), (CELLS + CELL / 2) * outer
+        shape = {"width": math.radians(10), "bottom": CELLS * outer, "edgecolor": INK, "linewidth": 0.4, "zorder": 2}
+        axes.bar([at], [CELL * outer], **shape, **look_of(capability, it.loss))
         letter = letter_of(capability, it.loss)
-        axes.text(
-            at,
-            1.08 * outer,
-            letter,
-            fontsize=7,
-            ha="center",
-            va="center",
-            zorder=3,
-            bbox=WHITE,
-            gid=f"limit {it.angle}",
-        )
+        style = {"fontsize": 7, "ha": "center", "va": "center", "zorder": 3, "bbox": WHITE}
+        axes.text(at, middle, letter, **style, gid=f"limit {it.angle}")
 
 
 def limits(axes: Axes, capability: Capability, outer: float) -> None:
@@ -199,7 +218,7 @@ def limits(axes: Axes, capability: Capability, outer: float) -> None:
     axes.fill([*angles, angles[0]], [*speeds, speeds[0]], facecolor="#dbe8f2", edgecolor="none", zorder=0.2)
     axes.plot([*angles, angles[0]], [*speeds, speeds[0]], color=INK, linewidth=1, zorder=3)
     axes.plot(
-        angles, speeds, linestyle="none", marker="o", markersize=3.5, color=INK, zorder=4, gid="speeds", clip_on=False
+        angles, speeds, linestyle="none", marker="o", markersize=3.5, color=INK, zorder=4, gid="speeds"
     )
     beyond = [(at, speed) for at, speed, it in zip(angles, speeds, capability.limits) if it.is_beyond]
     if beyond:
@@ -229,56 +248,62 @@ def limits(axes: Axes, capability: Capability, outer: float) -> None:
 
 
 def beside(axes: Axes, capability: Capability) -> None:
-    """The reserves as a table, which is the key of the letters too."""
+    """The reserves as a table, which is the key of the letters too, the least wind, and what the signs say."""
     axes.axis("off")
     axes.set_xlim(0, 1)
-    rows = len(capability.reserves)
     axes.set_ylim(-26, 0)
-    axes.text(0, 0, "Reserve: the part of the demand alone\nthat can be given, rounded down", fontsize=8, va="top")
-    places = places_of(capability)
+    for x, text, across in ((0.14, "loss", "left"), (0.98, "reserve", "right")):
+        axes.text(x, -0.3, text, fontsize=7, ha=across, va="center_baseline")
+    axes.plot([0.01, 0.98], [-0.75, -0.75], color=INK, linewidth=0.5)
     for k, (loss, reserve) in enumerate(capability.reserves):
-        y = -2.9 - k
-        place = places[loss]
-        axes.bar(
-            [0.055],
-            [0.72],
-            width=0.09,
-            bottom=y - 0.36,
-            facecolor=fill_of(place),
-            hatch=hatch_of(place),
-            edgecolor=INK,
-            linewidth=0.4,
-        )
-        axes.text(0.055, y, letter_of(capability, loss), fontsize=7, ha="center", va="center_baseline", bbox=WHITE)
-        weight = "bold" if loss == capability.worst else "normal"
-        axes.text(0.14, y, loss, fontsize=8, va="center_baseline", weight=weight, gid=f"loss {loss}")
-        axes.text(
-            0.98,
-            y,
-            reserve_text(reserve),
-            fontsize=8,
-            ha="right",
-            va="center_baseline",
-            weight=weight,
-            gid=f"reserve {loss}",
-        )
-    y = -2.9 - rows
-    worst = "no group's reserve is a part" if capability.worst == NONE else f"the least is {capability.worst}'s"
-    axes.text(0, y, worst, fontsize=8, va="center_baseline", gid="worst")
-    notes = [
-        "dots: the greatest wind speed at which, and at all",
-        "below, the intact plant and all losses hold",
-        "letters outside: the loss that gives way next",
-    ]
+        y = -1.4 - k
+        shape = {"width": 0.1, "bottom": y - 0.36, "edgecolor": INK, "linewidth": 0.4}
+        axes.bar([0.06], [0.72], **shape, **look_of(capability, loss))
+        axes.text(0.06, y, letter_of(capability, loss), fontsize=7, ha="center", va="center_baseline", bbox=WHITE)
+        style = {"fontsize": 8, "va": "center_baseline", "weight": "bold" if loss == capability.worst else "normal"}
+        axes.text(0.14, y, loss, **style, gid=f"loss {loss}")
+        axes.text(0.98, y, reserve_text(reserve), ha="right", **style, gid=f"reserve {loss}")
+    y = -1.7 - len(capability.reserves)
+    told = f"least reserve: {capability.worst}" if capability.worst != NONE else "least reserve: none is a number"
+    axes.text(0, y, told, fontsize=8, va="center_baseline", gid="worst")
+    axes.text(0, y - 0.9, f"least wind: {least_text(capability)}", fontsize=8, va="center_baseline", gid="least")
+    axes.text(0, y - 2, "\n".join(notes_of(capability)), fontsize=7, va="top", linespacing=1.35, gid="notes")
+
+
+def notes_of(capability: Capability) -> list[str]:
+    notes = ["reserve: how many times the demand by itself can be", "given, rounded down; below 1 it can't be met"]
+    reserves = [reserve for _, reserve in capability.reserves]
+    if "ANY" in reserves:
+        notes.append("any: nothing is demanded")
+    if "FROZEN" in reserves:
+        notes.append("frozen: a thruster stays at its frozen thrust")
+    notes += ["dots: held at this wind speed and at all below it;", "between the dots nothing is said"]
+    notes.append("letters outside: the loss that gives way next")
     if any(it.loss is None for it in capability.limits):
-        notes.append("–: none does up to 100 m/s")
+        notes.append("–: none gives way up to 100 m/s")
     if any(it.speed is None for it in capability.limits):
-        notes.append("NONE: it doesn't hold with no wind either")
+        notes.append("NONE: not held without any wind either")
     if any(it.is_beyond for it in capability.limits):
         notes.append("triangles: BEYOND, the next demand is past all limits")
-    notes.append("between the dots nothing is said")
-    axes.text(0, y - 1.2, "\n".join(notes), fontsize=7, va="top", linespacing=1.35, gid="notes")
+    return notes
+
+
+def least_text(capability: Capability) -> str:
+    """The least of the greatest speeds, and the first angle that has it."""
+    least = min(capability.limits, key=lambda it: -1 if it.speed is None else it.speed)
+    if least.speed in (None, MOST_SPEED):
+        return NONE if least.speed is None else "100 m/s, from each angle"
+    return f"{speed_text(least.speed)} m/s from {least.angle // 100}°"
+
+
+def speed_text(speed: int | None) -> str:
+    """A speed of so many dm/s in m/s."""
+    return NONE if speed is None else f"{speed // 10}.{speed % 10}"
 
 
 def reserve_text(reserve: Fraction | str) -> str:
-    return {"ANY": "any", "FROZEN": "frozen"}[reserve] if isinstance(reserve, str) else percent_down(reserve)
+    """How many times the demand, rounded down, so that what falls short is told as less than 1."""
+    if isinstance(reserve, str):
+        return {"ANY": "any", "FROZEN": "frozen"}[reserve]
+    hundredths = math.floor(100 * reserve)
+    return f"× {hundredths // 100:,}.{hundredths % 100:02}".replace(",", " ")

@@ -16,6 +16,8 @@ from .words import amount, demand_text, part_text, percent, shortfall_lines, siz
 
 # In inches: how wide and high a deck's panel is, and what stands above and below the panels.
 PANEL, DOWN, HEAD, FOOT, MARGIN = 3.2, 4.1, 0.68, 0.5, 0.2
+# How long the longest arrow is, in parts of the deck: it ends before the labels and the panel's border.
+LONGEST = 0.15
 ROUNDED = "Below a name: the thrust, rounded, and the part of its reach that it takes, rounded up. The text is exact."
 
 
@@ -49,7 +51,7 @@ def decks(plant: Plant, found: list[Finding], across: int, places: list[int], ro
 def kilonewtons_a_metre(plant: Plant, found: list[Finding]) -> float:
     """The scale of the arrows, the same on each deck."""
     most = max((size_of(use.thrust) for it in found for use in it.uses or []), default=0.0)
-    return max(most, 1.0) / (0.2 * drawing.Deck(plant).length)
+    return max(most, 1.0) / (LONGEST * drawing.Deck(plant).length)
 
 
 def panel(axes: Axes, plant: Plant, found: Finding, place: int, scale: float, with_text: bool) -> None:
@@ -76,7 +78,7 @@ def panel(axes: Axes, plant: Plant, found: Finding, place: int, scale: float, wi
         )
     if found.holds():
         arrows(axes, found, levers, scale)
-        force = nice(0.2 * outline.length * scale)
+        force = nice(LONGEST * outline.length * scale)
         left, foot = -half + 0.03 * outline.length, low + 0.02 * outline.length
         axes.plot([left, left + force / scale], [foot] * 2, color=INK, linewidth=2)
         axes.text(left, foot + 0.012 * outline.length, f"{force} kN", fontsize=6, va="bottom")
@@ -127,8 +129,8 @@ def arrows(axes: Axes, found: Finding, levers: list[tuple[float, float]], scale:
                 angles="xy",
                 scale_units="xy",
                 scale=1,
-                units="dots",
-                width=3.2,
+                units="inches",
+                width=0.027,
                 headwidth=3.4,
                 headlength=4,
                 headaxislength=3.6,
@@ -158,8 +160,8 @@ def falls_short(axes: Axes, found: Finding, outline: drawing.Deck, top: float) -
             angles="xy",
             scale_units="xy",
             scale=1,
-            units="dots",
-            width=7,
+            units="inches",
+            width=0.058,
             headwidth=2.6,
             headlength=2.4,
             headaxislength=2.4,
@@ -183,12 +185,11 @@ def falls_short(axes: Axes, found: Finding, outline: drawing.Deck, top: float) -
 
 
 def turn_about(axes: Axes, place: tuple[float, float], turn: int, outline: drawing.Deck, loss: str) -> None:
-    """A turning arrow about a point; where the point lies off the picture, a note of it stands in the text."""
-    (left, right), (low, high) = axes.get_xlim(), axes.get_ylim()
+    """A turning arrow about a point of the deck. Beside it stand labels, so a point there is only told in the text."""
     x, y = place
-    if not (left < x < right and low + 0.3 * outline.length < y < high):
-        return
     radius = 0.09 * outline.length
+    if not (abs(x) <= outline.half and outline.stern <= y <= outline.bow - radius):
+        return
     axes.plot([x], [y], marker="+", markersize=9, markeredgewidth=1.6, color=INK, zorder=6, gid=f"about {loss}")
     # Clockwise turns the bow to starboard.
     start, end = (150, 30) if turn > 0 else (30, 150)

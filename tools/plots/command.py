@@ -35,7 +35,7 @@ def words() -> argparse.ArgumentParser:
         "watch", help="the text of dp replay: the demand, the losses, the alarms and the orders over time"
     )
     capability = kinds.add_parser(
-        "capability", help="the text of dp capability: a polar plot of the wind that all losses leave"
+        "capability", help="the text of dp capability: a polar plot of the greatest wind that is held whatever is lost"
     )
     capability.add_argument("--plant", metavar="PLANT", help="the plant, for its name, which the text doesn't say")
     for kind in (check, watch, capability):
@@ -46,7 +46,7 @@ def words() -> argparse.ArgumentParser:
             default="-",
             help="what dp wrote; standard input where it is missing or -",
         )
-    report = kinds.add_parser("report", help="runs dp check, and makes one page of HTML")
+    report = kinds.add_parser("report", help="runs dp check and dp capability, and makes one page of HTML")
     report.add_argument("plant", metavar="PLANT", help="a plant file, or demo")
     for name, help_of in (("X", "kN ahead"), ("Y", "kN to starboard"), ("N", "kN·dm that turn the bow to starboard")):
         report.add_argument(name, help=help_of)
@@ -105,13 +105,12 @@ def draw_capability(given: argparse.Namespace) -> None:
 
 def make_report(given: argparse.Namespace) -> None:
     demand = [given.X, given.Y, given.N]
-    is_demo = given.plant == "demo"
-    plant = read_plant(given.plant)
+    plant, path = read_plant(given.plant), path_of(given.plant)
     from . import report
 
-    text = report.checked("demo" if is_demo else str(path_of(given.plant).resolve()), demand)
-    command = shlex.join(["./dp", "check", "--", "demo" if is_demo else path_of(given.plant).name, *demand])
-    pathlib.Path(given.out).write_text(report.page(plant, text, command))
+    word, name = ("demo", "demo") if given.plant == "demo" else (str(path.resolve()), path.name)
+    texts = [report.written(command, word, demand) for command in ("check", "capability")]
+    pathlib.Path(given.out).write_text(report.page(plant, *texts, shlex.join(["--", name, *demand])))
 
 
 KINDS = {

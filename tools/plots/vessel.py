@@ -249,7 +249,7 @@ def enlarged_region(axes: Axes, thruster: Thruster) -> None:
         middle = (min(beside) + max(beside)) / 2
         if most > 0:
             x, y = (middle, sign * (most + 0.07 * half)) if axis == 0 else (sign * (most + 0.1 * half), middle)
-            axes.text(x, y, f"{most} kN", fontsize=6.5, ha=across, va=up, gid=f"reach {thruster.name}")
+            axes.text(x, y, f"{most} kN", fontsize=6.5, ha=across, va=up, bbox=WHITE, gid=f"reach {thruster.name}")
 
 
 def legend(figure: Figure, plant: Plant, left: float, low: float, height: float) -> None:
