@@ -4,7 +4,8 @@ use Rattle.std.proofs.Common.{codes}
 use Rattle.plant_model.specs.declared.wrench.Wrench.{Wrench}
 use Rattle.dp_words.specs.Words.{form_of}
 use Rattle.dp_words.specs.declared.form.Form.{Form}
-use Rattle.dp_words.specs.declared.form.Form.TheVariants.{Capability, Check, Replay, Run, Vote}
+use Rattle.dp_words.specs.declared.form.Form.TheVariants.{Capability, Check, Drill, Replay, Run}
+use Rattle.dp_words.specs.declared.form.Form.TheVariants.{Vote}
 use Rattle.dp_words.proofs.Commands.{capability-other, differ, no-other}
 use Rattle.capability_report.specs.Calls.{names_capability}
 
@@ -28,5 +29,8 @@ other-words (command ∷ words) (Ok (Check plant demand json)) named is other =
 other-words (command ∷ words) (Ok (Vote telegrams report)) named is other =
     absurd (no-other command words (codes "capability") (Vote telegrams report) named
     (differ (codes "capability") (codes "vote") refl) (sym is))
+other-words (command ∷ words) (Ok (Drill seed size)) named is other =
+    absurd (no-other command words (codes "capability") (Drill seed size) named
+    (differ (codes "capability") (codes "drill") refl) (sym is))
 other-words (command ∷ words) (Err kind) named is other =
     sym is ∙ ap Err (capability-other command words kind named (sym is))

@@ -2,6 +2,7 @@
 use Rattle.std.proofs.Common.{◌≡◌, ℕ, List, [], ◌∷◌, Bool, true, false, Ok, Err, refl, sym, subst}
 use Rattle.std.proofs.Common.{◌∙◌, ap, codes}
 use Rattle.std.proofs.lemmas.Slice.Eq.{bytes_eq-Decides}
+use Rattle.std.specs.Str.{bytes_eq}
 use Rattle.dp_io.specs.Shown.{NoneFailed, Shown}
 use Rattle.plant_model.specs.declared.wrench.Wrench.{Wrench}
 use Rattle.dp_words.specs.Words.{form_of}
@@ -11,6 +12,7 @@ use Rattle.dp_words.specs.declared.status.RunStatus.TheVariants.{Usage}
 use Rattle.dp_words.proofs.Commands.{differ, names-it, no-other}
 use Rattle.sensor_vote.specs.Calls.{names_vote}
 use Rattle.capability_report.specs.Calls.{names_capability}
+use Rattle.drill_session.specs.Calls.{names_drill}
 use Rattle.dp_sessions.specs.Checks.{EndsFindings, names_check}
 use Rattle.dp_words.specs.Plants.{NamesNoFile}
 use Rattle.dp_sessions.specs.Sessions.{EndsSession, IsUntouched, Passed, recorded}
@@ -34,14 +36,38 @@ no-capability [] plant demand named is = absurd (cc)
 no-capability (command ∷ words) plant demand named is =
     let yes = names-it command words (forms.Capability plant demand) is in cc (yes, named)
 
--- words don't name both
-pub one-command : (words : List (List ℕ)) → names_vote words ≡ true
+-- and of a drill
+pub no-drill : (words : List (List ℕ)) (seed size : ℕ)
+    → names_drill words ≡ false → form_of words ≡ Ok (forms.Drill seed size) → ⊥
+no-drill [] seed size named is = absurd (cc)
+no-drill (command ∷ words) seed size named is =
+    let yes = names-it command words (forms.Drill seed size) is in cc (yes, named)
+
+-- a word isn't two commands
+one-name : (command one other : List ℕ) → bytes_eq one other ≡ false
+    → bytes_eq command one ≡ true → bytes_eq command other ≡ true → ⊥
+one-name command one other apart first second =
+    differ one other apart
+    (sym ((bytes_eq-Decides command one).0 first) ∙ (bytes_eq-Decides command other).0 second)
+
+-- words don't name two of these commands
+pub vote-or-capability : (words : List (List ℕ)) → names_vote words ≡ true
     → names_capability words ≡ true → ⊥
-one-command [] vote capability = absurd (cc)
-one-command (command ∷ words) vote capability =
-    differ (codes "vote") (codes "capability") refl
-    (sym ((bytes_eq-Decides command (codes "vote")).0 vote)
-    ∙ (bytes_eq-Decides command (codes "capability")).0 capability)
+vote-or-capability [] vote capability = absurd (cc)
+vote-or-capability (command ∷ words) vote capability =
+    one-name command (codes "vote") (codes "capability") refl vote capability
+
+pub vote-or-drill : (words : List (List ℕ)) → names_vote words ≡ true
+    → names_drill words ≡ true → ⊥
+vote-or-drill [] vote drill = absurd (cc)
+vote-or-drill (command ∷ words) vote drill =
+    one-name command (codes "vote") (codes "drill") refl vote drill
+
+pub capability-or-drill : (words : List (List ℕ)) → names_capability words ≡ true
+    → names_drill words ≡ true → ⊥
+capability-or-drill [] capability drill = absurd (cc)
+capability-or-drill (command ∷ words) capability drill =
+    one-name command (codes "capability") (codes "drill") refl capability drill
 
 module _ {A B C : Type 0} (words : List (List ℕ)) (status : RunStatus) (first : Passed A)
     (second : Passed B) (third : Passed C) (out : Shown)

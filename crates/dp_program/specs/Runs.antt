@@ -9,6 +9,7 @@ use Rattle.dp_words.specs.declared.form.Form.TheVariants as forms
 use Rattle.dp_words.specs.declared.status.RunStatus.{RunStatus}
 use Rattle.sensor_vote.specs.Calls.{names_vote}
 use Rattle.capability_report.specs.Calls.{EndsCapabilityCall, names_capability}
+use Rattle.drill_session.specs.Calls.{EndsDrillCall, names_drill}
 use Rattle.dp_sessions.specs.Checks.{EndsFindings, names_check}
 use Rattle.dp_words.specs.Plants.{NamesNoFile}
 use Rattle.dp_sessions.specs.Sessions.{EndsSession, IsUntouched, Passed, recorded}
@@ -34,10 +35,10 @@ abbrev pub workers_of : Result Form ℕ → ℕ
 workers_of (Ok (forms.Run plant sensors operators workers)) = workers
 workers_of _ = 0
 
--- How the program ends with this status where it neither votes nor tells a capability: as a session
--- over two streams where the first word names it, as a check where that does, and else as a session
--- over recorded telegrams. A source that isn't the command's is as it was, and so is that of the
--- plant where no word names it.
+-- How the program ends with this status where it neither votes nor tells a capability nor runs a drill:
+-- as a session over two streams where the first word names it, as a check where that does, and else as
+-- a session over recorded telegrams. A source that isn't the command's is as it was, and so is that of
+-- the plant where no word names it.
 pub record EndsElse {A B C : Type 0} (words : List (List ℕ)) (status : RunStatus)
     (first : Passed A) (second : Passed B) (third : Passed C) (out : Shown) : Type 0 where
   pub ran : names_run words ≡ true
@@ -58,13 +59,22 @@ pub record EndsMeasuring {A B C : Type 0} (words : List (List ℕ)) (status : Ru
   pub second : IsUntouched run.second
   pub third : IsUntouched run.third
 
+-- A drill. All sources are as they were.
+pub record EndsDrilling {A B C : Type 0} (words : List (List ℕ)) (status : RunStatus)
+    (run : Run A B C) : Type 0 where
+  pub drill : EndsDrillCall words status run.out run.err
+  pub first : IsUntouched run.first
+  pub second : IsUntouched run.second
+  pub third : IsUntouched run.third
+
 -- How the program ends with this status: as a vote where the first word names it, with the operators'
--- source as it was, as a capability where that does, else as above. The line is told.
+-- source as it was, as a capability or a drill where that does, else as above. The line is told.
 pub record EndsRun {A B C : Type 0} (words : List (List ℕ)) (status : RunStatus) (run : Run A B C)
     : Type 0 where
   pub voted : names_vote words ≡ true
       → EndsVoting words status run.first run.second run.out run.err × IsUntouched run.third
   pub measured : names_capability words ≡ true → EndsMeasuring words status run
+  pub drilled : names_drill words ≡ true → EndsDrilling words status run
   pub ended : names_vote words ≡ false → names_capability words ≡ false
-      → EndsElse words status run.first run.second run.third run.out
+      → names_drill words ≡ false → EndsElse words status run.first run.second run.third run.out
   pub told : IsTold status run.err

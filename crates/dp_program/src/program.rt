@@ -5,18 +5,20 @@ ghost use Rattle.dp_program.specs.Runs.{EndsElse, EndsRun};
 ghost use Rattle.dp_sessions.specs.Sessions.{passed};
 ghost use Rattle.sensor_vote.specs.Calls.{names_vote};
 ghost use Rattle.capability_report.specs.Calls.{names_capability};
+ghost use Rattle.drill_session.specs.Calls.{names_drill};
 
 use crate::watch::watch;
 use capability_report::{capability_call, names_capability};
 use dp_io::{Gate, Sink, Source};
 use dp_sessions::{check_demand, replay_telegrams};
 use dp_words::{Form, RunStatus, form_of, tell};
+use drill_session::{drill_call, names_drill};
 use sensor_vote::{names_vote, vote_call};
 use std::alloc::Global;
 use std::sync::Wait;
 use std::thread::Threads;
 
-/// What the words ask for, without a word to the error output. They name neither a vote nor a capability.
+/// What the words ask for, without a word to the error output. They name neither a vote nor a capability nor a drill.
 fn answer<
     R: Threads + Wait + Sync,
     A: Source,
@@ -36,6 +38,7 @@ fn answer<
 ) -> RunStatus
     requires no_vote { names_vote (map string_bytes words.now) ≡ false }
     requires no_capability { names_capability (map string_bytes words.now) ≡ false }
+    requires no_drill { names_drill (map string_bytes words.now) ≡ false }
     ensures { EndsElse (map string_bytes words.now) result (passed A.Source first.old first.new)
         (passed B.Source second.old second.new) (passed C.Source third.old third.new)
         (writing O.Sink out.old out.new) }
@@ -57,6 +60,7 @@ fn answer<
         ) => check_demand(alloc, words[plant].as_str(), demand, json, first, out),
         Ok(Form::Vote { .. }) => unreachable!(),
         Ok(Form::Capability { .. }) => unreachable!(),
+        Ok(Form::Drill { .. }) => unreachable!(),
         Err(kind) => RunStatus::Usage(kind),
     }
 }
@@ -65,9 +69,9 @@ fn answer<
 ///
 /// The sources are those of the plant, of the sensors or the recorded telegrams, and of the operators. `run` is a session
 /// over two streams: the calling thread answers the sensors, another one the operators, and workers beside them publish a
-/// verdict on each loss for each version; the gate is told of what they do. The other commands, `replay`, `check`,
-/// `vote` and `capability`, start no thread, don't read the third source and tell the gate nothing. The first source is
-/// that of a vote's telegrams.
+/// verdict on each loss for each version; the gate is told of what they do. `drill` is such a session over two streams in
+/// memory, and reads none of the sources. The other commands, `replay`, `check`, `vote` and `capability`, start no
+/// thread, don't read the third source and tell the gate nothing. The first source is that of a vote's telegrams.
 pub fn run<
     R: Threads + Wait + Sync,
     A: Source,
@@ -100,6 +104,9 @@ pub fn run<
     }
     if names_capability(words) {
         return capability_call(alloc, words, first, out, err);
+    }
+    if names_drill(words) {
+        return drill_call(rt, alloc, words, out, err, gate);
     }
     let status = answer(rt, alloc, words, first, second, third, out, gate);
     tell(&status, err);

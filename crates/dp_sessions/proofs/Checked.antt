@@ -10,7 +10,8 @@ use Rattle.dp_words.specs.PlantSource.{IsPlantError, PlantSays}
 use Rattle.dp_words.proofs.Commands.{check-other, differ, no-other}
 use Rattle.dp_words.specs.Words.{form_of}
 use Rattle.dp_words.specs.declared.form.Form.{Form}
-use Rattle.dp_words.specs.declared.form.Form.TheVariants.{Capability, Check, Replay, Run, Vote}
+use Rattle.dp_words.specs.declared.form.Form.TheVariants.{Capability, Check, Drill, Replay, Run}
+use Rattle.dp_words.specs.declared.form.Form.TheVariants.{Vote}
 use Rattle.dp_words.specs.declared.status.RunStatus.{RunStatus}
 use Rattle.dp_words.specs.declared.status.RunStatus.TheVariants.{Clear, LossFound, NoMemory}
 use Rattle.dp_words.specs.declared.status.RunStatus.TheVariants.{Usage, WriteFault}
@@ -51,6 +52,9 @@ other-words (command ∷ words) (Ok (Vote telegrams report)) named is other =
 other-words (command ∷ words) (Ok (Capability plant demand)) named is other =
     absurd (no-other command words (codes "check") (Capability plant demand) named
     (differ (codes "check") (codes "capability") refl) (sym is))
+other-words (command ∷ words) (Ok (Drill seed size)) named is other =
+    absurd (no-other command words (codes "check") (Drill seed size) named
+    (differ (codes "check") (codes "drill") refl) (sym is))
 other-words (command ∷ words) (Err kind) named is other =
     sym is ∙ ap Err (check-kind (command ∷ words) kind named (sym is))
 

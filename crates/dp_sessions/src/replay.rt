@@ -1,10 +1,9 @@
 //! The top call of `replay`.
-ghost use Rattle.std.specs.Prelude.{◌≡◌, ℕ, List, Bool, codes, map, string_bytes};
+ghost use Rattle.std.specs.Prelude.{◌≡◌, ℕ, List, codes, map, string_bytes};
 ghost use Rattle.dp_io.specs.Shown.{reading, writing};
 ghost use Rattle.dp_words.specs.Plants.{HasPlant, NamesNoFile};
 ghost use Rattle.dp_sessions.specs.Sessions.{EndsSession, passed, recorded};
-ghost use Rattle.dp_sessions.specs.Votes.{AskNoVote, EndsReplay, RefusesVote};
-ghost use Rattle.sensor_vote.specs.Calls.{AsksVote};
+ghost use Rattle.dp_sessions.specs.Votes.{EndsReplay, HaveNoPlant, RefusesForm};
 
 use crate::session::session;
 use dp_io::{Sink, Source};
@@ -36,7 +35,7 @@ pub fn replay<A: Source, B: Source, O: Sink>(
     }
 }
 
-/// What the words ask for, without a word to the error output. Words of a vote are refused.
+/// What the words ask for, without a word to the error output. Words of a form that has no plant are refused.
 fn replay_words<A: Source, B: Source, O: Sink>(
     alloc: Global,
     words: &[String],
@@ -44,13 +43,13 @@ fn replay_words<A: Source, B: Source, O: Sink>(
     telegrams: &mut B,
     out: &mut O,
 ) -> RunStatus
-    ensures session { AskNoVote (map string_bytes words.now)
+    ensures session { ¬ HaveNoPlant (map string_bytes words.now)
         → EndsSession (map string_bytes words.now) result
         (recorded (passed B.Source telegrams.old telegrams.new)
         (writing O.Sink out.old out.new))
         (reading A.Source first.old first.new) (writing O.Sink out.old out.new) }
-    ensures refused { (report : Bool) → AsksVote (map string_bytes words.now) report
-        → RefusesVote result (passed A.Source first.old first.new)
+    ensures refused { HaveNoPlant (map string_bytes words.now)
+        → RefusesForm result (passed A.Source first.old first.new)
         (passed B.Source telegrams.old telegrams.new) (writing O.Sink out.old out.new) }
     ensures unread { NamesNoFile (map string_bytes words.now) → first.new ≡ first.old }
 {
@@ -69,7 +68,7 @@ fn replay_words<A: Source, B: Source, O: Sink>(
 /// Where the words have that form, there is a plant and nothing fails, `out` takes the frames of the session's commands
 /// as they are answered, and then the log of its history and its report. The status says what failed else, and `err`
 /// takes its line. The first source is that of the plant file, which isn't read where the plant is the built-in one.
-/// Words that ask for a vote have no plant: they are refused as faulty words.
+/// Words that ask for a vote or a drill have no plant: they are refused as faulty words.
 pub fn replay_call<A: Source, B: Source, O: Sink, E: Sink>(
     alloc: Global,
     words: &[String],

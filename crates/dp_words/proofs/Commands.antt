@@ -7,10 +7,12 @@ use Rattle.std.specs.Str.{bytes_eq}
 use Rattle.plant_model.specs.declared.wrench.Wrench.{Wrench}
 use Rattle.telegram.specs.declared.telegram.Reject.{Reject}
 use Rattle.dp_words.specs.declared.form.Form.{Form}
-use Rattle.dp_words.specs.declared.form.Form.TheVariants.{Capability, Check, Replay, Run, Vote}
+use Rattle.dp_words.specs.declared.form.Form.TheVariants.{Capability, Check, Drill, Replay, Run}
+use Rattle.dp_words.specs.declared.form.Form.TheVariants.{Vote}
 use Rattle.dp_words.specs.declared.form.WordsFault.{WordsFault}
 use Rattle.dp_words.specs.declared.form.WordsFault.TheVariants.{OtherWords, UnknownCommand}
-use Rattle.dp_words.specs.Words.{capability_form, capability_of}
+use Rattle.dp_words.specs.Words.{capability_form, capability_of, drill_form, drill_of, seed_of}
+use Rattle.dp_words.specs.Words.{size_of}
 use Rattle.dp_words.specs.Words.{Placed, asks_for, check_form, check_of, demand_of, form_of}
 use Rattle.dp_words.specs.Words.{is_dash, kind_of, numbered, options, placed, places, replay_form}
 use Rattle.dp_words.specs.Words.{run_at, run_form, run_of, run_placed, run_valued, value_in}
@@ -23,6 +25,7 @@ command_of (Replay plant telegrams) = codes "replay"
 command_of (Check plant demand json) = codes "check"
 command_of (Vote telegrams report) = codes "vote"
 command_of (Capability plant demand) = codes "capability"
+command_of (Drill seed size) = codes "drill"
 
 -- a form of this command, or none for the words after the first
 abbrev pub IsOf : List ℕ → Result Form WordsFault → Type 0
@@ -129,33 +132,55 @@ capability-is chosen (a ∷ b ∷ c ∷ []) = refl
 capability-is chosen (a ∷ b ∷ c ∷ d ∷ []) = capability-of a.0 (demand_of b.1 c.1 d.1) chosen
 capability-is chosen (a ∷ b ∷ c ∷ d ∷ e ∷ rest) = refl
 
+drill-of : (seed size : Result ℕ Reject) → IsOf (codes "drill") (drill_of seed size)
+drill-of (Ok seed) (Ok size) = refl
+drill-of (Ok seed) (Err reject) = refl
+drill-of (Err reject) size = refl
+
+drill-is : (chosen all : List Placed) → IsOf (codes "drill") (drill_form chosen all)
+drill-is [] [] = refl
+drill-is [] (a ∷ []) = refl
+drill-is [] (a ∷ b ∷ []) = drill-of (seed_of a.1) (size_of b.1)
+drill-is [] (a ∷ b ∷ c ∷ rest) = refl
+drill-is (option ∷ more) all = refl
+
 -- ---- all words
 
 -- the form is that of the command whose word the first is
-named-where : (command : List ℕ) (run replay check vote capability : Bool)
+named-where : (command : List ℕ) (run replay check vote capability drill : Bool)
     (chosen all : List Placed) (form : Form) → (run ≡ true → command ≡ codes "run")
     → (replay ≡ true → command ≡ codes "replay") → (check ≡ true → command ≡ codes "check")
     → (vote ≡ true → command ≡ codes "vote")
     → (capability ≡ true → command ≡ codes "capability")
+    → (drill ≡ true → command ≡ codes "drill")
     → (if run then run_form chosen all
     else (if replay then replay_form chosen all
     else (if check then check_form chosen all
     else (if vote then vote_form chosen all
-    else (if capability then capability_form chosen all else Err UnknownCommand)))))
+    else (if capability then capability_form chosen all
+    else (if drill then drill_form chosen all else Err UnknownCommand))))))
     ≡ Ok form
     → command ≡ command_of form
-named-where command true replay check vote capability chosen all form one two three four five is =
+named-where command true replay check vote capability drill chosen all form one two three four five
+    six is =
     one refl ∙ sym (subst (IsOf (codes "run")) is (run-is chosen all))
-named-where command false true check vote capability chosen all form one two three four five is =
+named-where command false true check vote capability drill chosen all form one two three four five
+    six is =
     two refl ∙ sym (subst (IsOf (codes "replay")) is (replay-is chosen all))
-named-where command false false true vote capability chosen all form one two three four five is =
+named-where command false false true vote capability drill chosen all form one two three four five
+    six is =
     three refl ∙ sym (subst (IsOf (codes "check")) is (check-is chosen all))
-named-where command false false false true capability chosen all form one two three four five is =
+named-where command false false false true capability drill chosen all form one two three four five
+    six is =
     four refl ∙ sym (subst (IsOf (codes "vote")) is (vote-is chosen all))
-named-where command false false false false true chosen all form one two three four five is =
+named-where command false false false false true drill chosen all form one two three four five
+    six is =
     five refl ∙ sym (subst (IsOf (codes "capability")) is (capability-is chosen all))
-named-where command false false false false false chosen all form one two three four five is =
-    absurd (cc)
+named-where command false false false false false true chosen all form one two three four five
+    six is =
+    six refl ∙ sym (subst (IsOf (codes "drill")) is (drill-is chosen all))
+named-where command false false false false false false chosen all form one two three four five
+    six is = absurd (cc)
 
 found : (read : Result Form WordsFault) (form : Form) → numbered read ≡ Ok form → read ≡ Ok form
 found (Ok other) form is = cc
@@ -168,9 +193,10 @@ first-is command words form is =
     λ name e. (bytes_eq-Decides command name).0 e in
     named-where command (bytes_eq command (codes "run")) (bytes_eq command (codes "replay"))
     (bytes_eq command (codes "check")) (bytes_eq command (codes "vote"))
-    (bytes_eq command (codes "capability")) (options (placed words)) (places (placed words)) form
+    (bytes_eq command (codes "capability")) (bytes_eq command (codes "drill"))
+    (options (placed words)) (places (placed words)) form
     (reads (codes "run")) (reads (codes "replay")) (reads (codes "check")) (reads (codes "vote"))
-    (reads (codes "capability"))
+    (reads (codes "capability")) (reads (codes "drill"))
     (found (written_form (command ∷ words)) form is)
 
 -- two words of commands
@@ -227,3 +253,13 @@ capability-other command words kind named is =
     subst (λ (c : List ℕ). IsOf (codes "capability") (written_form (c ∷ words))) (sym same)
     (capability-is (options (placed words)) (places (placed words))) in
     other-number (codes "capability") (written_form (command ∷ words)) kind of is
+
+-- and for a drill
+pub drill-other : (command : List ℕ) (words : List (List ℕ)) (kind : ℕ)
+    → bytes_eq command (codes "drill") ≡ true → form_of (command ∷ words) ≡ Err kind → kind ≡ 3
+drill-other command words kind named is =
+    let same : command ≡ codes "drill" = (bytes_eq-Decides command (codes "drill")).0 named in
+    let of : IsOf (codes "drill") (written_form (command ∷ words)) =
+    subst (λ (c : List ℕ). IsOf (codes "drill") (written_form (c ∷ words))) (sym same)
+    (drill-is (options (placed words)) (places (placed words))) in
+    other-number (codes "drill") (written_form (command ∷ words)) kind of is

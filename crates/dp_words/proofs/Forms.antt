@@ -23,7 +23,8 @@ use Rattle.dp_words.specs.Words.{replay_form, check_form, check_of, demand_of, a
 use Rattle.dp_words.specs.Words.{written_form, NamesBelow, vote_form, vote_of}
 use Rattle.dp_words.specs.Words.{run_at, run_form, run_of, run_placed, run_valued}
 use Rattle.dp_words.specs.Words.{value_in, workers_in, workers_of}
-use Rattle.dp_words.specs.Words.{capability_form, capability_of}
+use Rattle.dp_words.specs.Words.{capability_form, capability_of, drill_form, drill_of, seed_of}
+use Rattle.dp_words.specs.Words.{size_of}
 
 -- ---- the kept options and places are enough
 
@@ -106,6 +107,30 @@ capability_kept all_options (plant ∷ x ∷ y ∷ []) = refl
 capability_kept all_options (plant ∷ x ∷ y ∷ n ∷ []) =
     no_option_kept plant.0 (demand_of x.1 y.1 n.1) all_options
 capability_kept all_options (plant ∷ x ∷ y ∷ n ∷ more ∷ rest) = refl
+
+pub drill_kept : (all_options all : List Placed)
+    → drill_form (take KEPT_OPTIONS all_options) (take KEPT_PLACES all)
+    ≡ drill_form all_options all
+drill_kept [] [] = refl
+drill_kept [] (seed ∷ []) = refl
+drill_kept [] (seed ∷ size ∷ []) = refl
+drill_kept [] (seed ∷ size ∷ more ∷ rest) = refl
+drill_kept (option ∷ more) all = refl
+
+-- another count of places than two is no form of `drill`
+pub no_drill_unless_two : (all_options all : List Placed) → length all ≢ 2
+    → Err OtherWords ≡ drill_form all_options all
+no_drill_unless_two [] [] other = refl
+no_drill_unless_two [] (seed ∷ []) other = refl
+no_drill_unless_two [] (seed ∷ size ∷ []) other = absurd (other refl)
+no_drill_unless_two [] (seed ∷ size ∷ more ∷ rest) other = refl
+no_drill_unless_two (option ∷ more) all other = refl
+
+-- nor is any option
+pub no_drill_with_options : (all_options all : List Placed) → 1 ≤ length all_options
+    → Err OtherWords ≡ drill_form all_options all
+no_drill_with_options [] all some = absurd (omega (arith, some))
+no_drill_with_options (option ∷ more) all some = refl
 
 -- another count of places than four is no form of `capability`
 pub no_capability_unless_four : (all_options all : List Placed) → length all ≢ 4
@@ -323,26 +348,43 @@ capability_below count all_options (plant ∷ x ∷ y ∷ n ∷ []) below =
     (below 0 plant (omega arith))
 capability_below count all_options (plant ∷ x ∷ y ∷ n ∷ more ∷ rest) below = tt
 
+drill_of_below : (count : ℕ) (seed size : Result ℕ Reject)
+    → IfOk (drill_of seed size) (λ form. NamesBelow form count)
+drill_of_below count (Ok seed) (Ok size) = tt
+drill_of_below count (Ok seed) (Err reject) = tt
+drill_of_below count (Err reject) size = tt
+
+drill_below : (count : ℕ) (all_options all : List Placed)
+    → IfOk (drill_form all_options all) (λ form. NamesBelow form count)
+drill_below count [] [] = tt
+drill_below count [] (seed ∷ []) = tt
+drill_below count [] (seed ∷ size ∷ []) = drill_of_below count (seed_of seed.1) (size_of size.1)
+drill_below count [] (seed ∷ size ∷ more ∷ rest) = tt
+drill_below count (option ∷ more) all = tt
+
 command_below : (count : ℕ) (all_options all : List Placed)
-    (run replay check vote capability : Bool)
+    (run replay check vote capability drill : Bool)
     → All (IsBelow count) all
     → IfOk {E = WordsFault} (if run then run_form all_options all
     else (if replay then replay_form all_options all
     else (if check then check_form all_options all
     else (if vote then vote_form all_options all
-    else (if capability then capability_form all_options all else Err UnknownCommand)))))
+    else (if capability then capability_form all_options all
+    else (if drill then drill_form all_options all else Err UnknownCommand))))))
     (λ form. NamesBelow form count)
-command_below count all_options all true replay check vote capability below =
+command_below count all_options all true replay check vote capability drill below =
     run_below count all_options all below
-command_below count all_options all false true check vote capability below =
+command_below count all_options all false true check vote capability drill below =
     replay_below count all_options all below
-command_below count all_options all false false true vote capability below =
+command_below count all_options all false false true vote capability drill below =
     check_below count all_options all below
-command_below count all_options all false false false true capability below =
+command_below count all_options all false false false true capability drill below =
     vote_below count all_options all below
-command_below count all_options all false false false false true below =
+command_below count all_options all false false false false true drill below =
     capability_below count all_options all below
-command_below count all_options all false false false false false below = tt
+command_below count all_options all false false false false false true below =
+    drill_below count all_options all
+command_below count all_options all false false false false false false below = tt
 
 -- the places of a form are among the words
 pub names_below : (words : List (List ℕ))
@@ -354,7 +396,7 @@ names_below (command ∷ words) =
     (command_below (length words + 1) (options (placed words)) (places (placed words))
     (bytes_eq command (codes "run")) (bytes_eq command (codes "replay"))
     (bytes_eq command (codes "check")) (bytes_eq command (codes "vote"))
-    (bytes_eq command (codes "capability"))
+    (bytes_eq command (codes "capability")) (bytes_eq command (codes "drill"))
     (places_below (length words + 1) (placed words) (placed_below words)))
 
 pub names_of : {X : Type 0} (f : X → List ℕ) (words : List X) (form : Result Form WordsFault)
@@ -435,5 +477,18 @@ form_of_capability f words rest command name kept_options kept split named is op
     places_are =
     ap₂ capability_form options_are places_are
     ∙ capability_kept (options (placed (map f rest))) (places (placed (map f rest)))
+    ∙ ap (λ text. written_form (text ∷ map f rest)) (sym is)
+    ∙ command-is f words rest command name split named
+
+-- `drill` likewise
+pub form_of_drill : {X : Type 0} (f : X → List ℕ) (words rest : List X) (command : X)
+    (name : List ℕ) (kept_options kept : List Placed)
+    → words ≡ command ∷ rest → name ≡ f command → name ≡ codes "drill"
+    → kept_options ≡ take KEPT_OPTIONS (options (placed (map f rest)))
+    → kept ≡ take KEPT_PLACES (places (placed (map f rest)))
+    → drill_form kept_options kept ≡ written_form (map f words)
+form_of_drill f words rest command name kept_options kept split named is options_are places_are =
+    ap₂ drill_form options_are places_are
+    ∙ drill_kept (options (placed (map f rest))) (places (placed (map f rest)))
     ∙ ap (λ text. written_form (text ∷ map f rest)) (sym is)
     ∙ command-is f words rest command name split named

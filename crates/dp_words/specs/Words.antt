@@ -9,10 +9,12 @@ use Rattle.plant_model.specs.Names.{dash}
 use Rattle.plant_model.specs.Versions.{IsDemand}
 use Rattle.plant_model.specs.declared.limits.TheConstants.{MOST_FORCE, MOST_MOMENT, MOST_WORKERS}
 use Rattle.plant_model.specs.declared.wrench.Wrench.{Wrench}
-use Rattle.telegram.specs.Telegrams.{◌>>=◌, within_of}
+use Rattle.telegram.specs.Telegrams.{◌>>=◌, natural_of, within_of}
 use Rattle.telegram.specs.declared.telegram.Reject.{Reject}
+use Rattle.drill_streams.specs.declared.streams.TheConstants.{MOST_DRILL_STEPS}
 use Rattle.dp_words.specs.declared.form.Form.{Form}
-use Rattle.dp_words.specs.declared.form.Form.TheVariants.{Capability, Check, Replay, Run, Vote}
+use Rattle.dp_words.specs.declared.form.Form.TheVariants.{Capability, Check, Drill, Replay, Run}
+use Rattle.dp_words.specs.declared.form.Form.TheVariants.{Vote}
 use Rattle.dp_words.specs.declared.form.WordsFault.{WordsFault}
 use Rattle.dp_words.specs.declared.form.WordsFault.TheVariants.{NoWord, UnknownCommand, OtherWords}
 
@@ -184,6 +186,27 @@ capability_form options (plant ∷ x ∷ y ∷ n ∷ []) =
     capability_of plant.0 (demand_of x.1 y.1 n.1) options
 capability_form options (plant ∷ x ∷ y ∷ n ∷ more ∷ rest) = Err OtherWords
 
+-- the seed of a drill, and its size
+abbrev pub seed_of : List ℕ → Result ℕ Reject
+seed_of = natural_of 0 4294967295
+
+abbrev pub size_of : List ℕ → Result ℕ Reject
+size_of = natural_of 1 MOST_DRILL_STEPS
+
+-- a drill of this seed and size, where both are right
+abbrev pub drill_of : Result ℕ Reject → Result ℕ Reject → Result Form WordsFault
+drill_of (Ok seed) (Ok size) = Ok (Drill seed size)
+drill_of (Ok seed) (Err reject) = Err OtherWords
+drill_of (Err reject) size = Err OtherWords
+
+-- `drill` has two places, the seed and the size, and no option
+abbrev pub drill_form : List Placed → List Placed → Result Form WordsFault
+drill_form [] [] = Err OtherWords
+drill_form [] (seed ∷ []) = Err OtherWords
+drill_form [] (seed ∷ size ∷ []) = drill_of (seed_of seed.1) (size_of size.1)
+drill_form [] (seed ∷ size ∷ more ∷ rest) = Err OtherWords
+drill_form (option ∷ more) all = Err OtherWords
+
 -- the written form of the words, or what is wrong with them: there is none, the command is unknown,
 -- or the others aren't of its form
 abbrev pub written_form : List (List ℕ) → Result Form WordsFault
@@ -198,7 +221,9 @@ written_form (command ∷ words) =
     (if bytes_eq command (codes "vote") then vote_form (options rest) (places rest)
     else
     (if bytes_eq command (codes "capability") then capability_form (options rest) (places rest)
-    else Err UnknownCommand))))
+    else
+    (if bytes_eq command (codes "drill") then drill_form (options rest) (places rest)
+    else Err UnknownCommand)))))
 
 -- the form, or the number of what is wrong
 abbrev pub numbered : Result Form WordsFault → Result Form ℕ
@@ -218,14 +243,20 @@ NamesBelow (Replay plant telegrams) count = (plant < count) × (telegrams < coun
 NamesBelow (Check plant demand json) count = plant < count
 NamesBelow (Vote telegrams report) count = telegrams < count
 NamesBelow (Capability plant demand) count = plant < count
+NamesBelow (Drill seed size) count = Unit {0}
 
--- what the form asks for is within its limits: so many workers, or such a demand
+-- as many steps as a drill may have
+abbrev pub AreSteps : ℕ → Type 0
+AreSteps size = (1 ≤ size) × (size ≤ MOST_DRILL_STEPS)
+
+-- what the form asks for is within its limits: so many workers, such a demand, or so many steps
 abbrev pub AsksWithin : Form → Type 0
 AsksWithin (Run plant sensors operators workers) = AreWorkers workers
 AsksWithin (Replay plant telegrams) = Unit {0}
 AsksWithin (Check plant demand json) = IsDemand demand
 AsksWithin (Vote telegrams report) = Unit {0}
 AsksWithin (Capability plant demand) = IsDemand demand
+AsksWithin (Drill seed size) = AreSteps size
 
 -- the place of the plant's word, where the command has a plant
 abbrev pub plant_place : Form → Option ℕ
@@ -234,6 +265,7 @@ plant_place (Replay plant telegrams) = Some plant
 plant_place (Check plant demand json) = Some plant
 plant_place (Vote telegrams report) = None
 plant_place (Capability plant demand) = Some plant
+plant_place (Drill seed size) = None
 
 -- the word at a place, or an empty one where there is none
 abbrev pub word_at : List (List ℕ) → Option ℕ → List ℕ
@@ -241,7 +273,7 @@ word_at words None = []
 word_at words (Some place) = slice_index_or words place []
 
 -- the places of the words that name files: of the plant, and of the sensors and the operators or of the
--- telegrams; or of the telegrams alone
+-- telegrams; or of the telegrams alone; a drill has no file
 abbrev pub files_of : Result Form ℕ → List (Option ℕ)
 files_of (Ok (Run plant sensors operators workers)) =
     Some plant ∷ Some sensors ∷ Some operators ∷ []
@@ -249,4 +281,5 @@ files_of (Ok (Replay plant telegrams)) = Some plant ∷ Some telegrams ∷ None 
 files_of (Ok (Check plant demand json)) = Some plant ∷ None ∷ None ∷ []
 files_of (Ok (Vote telegrams report)) = Some telegrams ∷ None ∷ None ∷ []
 files_of (Ok (Capability plant demand)) = Some plant ∷ None ∷ None ∷ []
+files_of (Ok (Drill seed size)) = None ∷ None ∷ None ∷ []
 files_of (Err kind) = None ∷ None ∷ None ∷ []

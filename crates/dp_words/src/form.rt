@@ -1,15 +1,17 @@
 //! The words of the command line.
-ghost use Rattle.std.specs.Prelude.{◌≡◌, ℕ, ◌<◌, length, map, IfOk, IfSome, string_bytes};
+ghost use Rattle.std.specs.Prelude.{◌≡◌, ℕ, ◌<◌, ◌≤◌, length, map, IfOk, IfSome, string_bytes};
 ghost use Rattle.plant_model.specs.Versions.{IsDemand};
 ghost use Rattle.telegram.specs.Numbers.{number_of, IsFromTo};
+ghost use Rattle.telegram.specs.Telegrams.{natural_of};
 ghost use Rattle.dp_words.specs.Sorting.{pair};
 ghost use Rattle.dp_words.specs.Words.{replay_form, asks_for, demand_of, check_form, vote_form};
-ghost use Rattle.dp_words.specs.Words.{capability_form};
+ghost use Rattle.dp_words.specs.Words.{capability_form, drill_form, drill_of, seed_of, size_of};
 ghost use Rattle.dp_words.specs.Words.{form_of, written_form, kind_of, plant_place, files_of};
 ghost use Rattle.dp_words.specs.Words.{NamesBelow, AsksWithin};
 
 use crate::run_form::run_form;
 use crate::sorting::{Placed, sort_words};
+use drill_streams::MOST_DRILL_STEPS;
 use plant_model::limits::{MOST_FORCE, MOST_MOMENT};
 use plant_model::wrench::Wrench;
 use telegram::{Reject, number};
@@ -45,6 +47,11 @@ pub enum Form {
     Capability {
         plant: usize,
         demand: Wrench,
+    },
+    /// `drill SEED SIZE`: a session over streams that are drawn from a number, of so many steps.
+    Drill {
+        seed: u32,
+        size: u32,
     },
 }
 
@@ -84,7 +91,7 @@ impl Form {
             | Form::Replay { plant, .. }
             | Form::Check { plant, .. }
             | Form::Capability { plant, .. } => Some(plant),
-            Form::Vote { .. } => None,
+            Form::Vote { .. } | Form::Drill { .. } => None,
         }
     }
 }
@@ -187,6 +194,43 @@ fn capability_form(options: &[Placed<'_>], places: &[Placed<'_>]) -> Result<Form
     }
 }
 
+/// The number that a word spells, from `low` to `high`.
+fn natural(word: &str, low: u32, high: u32) -> Result<u32, Reject>
+    ensures value { result ≡ natural_of low high word.now }
+    ensures within { IfOk result (λ n. (low ≤ n) × (n ≤ high)) }
+{
+    let value = number(word.as_bytes(), i64::from(low), i64::from(high))?;
+    Ok(value as u32)
+}
+
+/// The form of `drill` with these places.
+fn drill_of(seed: &str, size: &str) -> Result<Form, WordsFault>
+    ensures form { result ≡ drill_of (seed_of seed.now) (size_of size.now) }
+    ensures steps { IfOk result AsksWithin }
+{
+    match (
+        natural(seed, 0, u32::MAX),
+        natural(size, 1, MOST_DRILL_STEPS),
+    ) {
+        (Ok(seed), Ok(size)) => Ok(Form::Drill { seed, size }),
+        _ => Err(WordsFault::OtherWords),
+    }
+}
+
+/// The form of `drill` with these options and places.
+fn drill_form(options: &[Placed<'_>], places: &[Placed<'_>]) -> Result<Form, WordsFault>
+    ensures form { result ≡ drill_form (map pair options.now) (map pair places.now) }
+    ensures steps { IfOk result AsksWithin }
+{
+    let [seed, size] = places else {
+        return Err(WordsFault::OtherWords);
+    };
+    match options {
+        [] => drill_of(seed.word, size.word),
+        _ => Err(WordsFault::OtherWords),
+    }
+}
+
 /// The form of the words, or what is wrong with them.
 fn written_form(words: &[String]) -> Result<Form, WordsFault>
     ensures form { result ≡ written_form (map string_bytes words.now) }
@@ -204,6 +248,7 @@ fn written_form(words: &[String]) -> Result<Form, WordsFault>
         "check" => check_form(options, places),
         "vote" => vote_form(options, places),
         "capability" => capability_form(options, places),
+        "drill" => drill_form(options, places),
         _ => Err(WordsFault::UnknownCommand),
     }
 }
@@ -219,6 +264,8 @@ fn written_form(words: &[String]) -> Result<Form, WordsFault>
 /// and no option. `check` has the places PLANT, X, Y and N, and may have the option `--json`, at most once. X and Y, in
 /// kN, and N, in kN·dm, are numbers as telegrams spell them, within the demand's limits. `vote` has the place
 /// TELEGRAMS, and may have the option `--report`, at most once. `capability` has the places of `check` and no option.
+/// `drill` has the places SEED, from 0 to 4294967295, and SIZE, from 1 to [`MOST_DRILL_STEPS`], numbers as telegrams
+/// spell them, and no option.
 pub fn form_of(words: &[String]) -> Result<Form, u32>
     ensures form { result ≡ form_of (map string_bytes words.now) }
     ensures within { IfOk result (λ form. NamesBelow form (length words.now)) }
@@ -232,7 +279,7 @@ pub fn form_of(words: &[String]) -> Result<Form, u32>
 
 /// The places of the words that name files, in the order of the sources that `run` takes: the plant's, also where
 /// it is the built-in one, and the sensors' and the operators', or the telegrams'; of `vote` the telegrams' alone.
-/// None where the form has no such file, and where the words have no written form.
+/// None where the form has no such file, as that of `drill` has none, and where the words have no written form.
 pub fn file_words(words: &[String]) -> [Option<usize>; 3]
     ensures { result ≡ files_of (form_of (map string_bytes words.now)) }
 {
@@ -250,6 +297,6 @@ pub fn file_words(words: &[String]) -> [Option<usize>; 3]
             [Some(plant), None, None]
         }
         Ok(Form::Vote { telegrams, .. }) => [Some(telegrams), None, None],
-        Err(_) => [None, None, None],
+        Ok(Form::Drill { .. }) | Err(_) => [None, None, None],
     }
 }

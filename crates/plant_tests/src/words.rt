@@ -81,6 +81,17 @@ fn words_without_a_form(rt: HostRuntime) -> Result<(), Fail> {
         ("vote - --json", 3),
         ("vote - -- --report", 3),
         ("vote demo -", 3),
+        ("drill", 3),
+        ("drill 0", 3),
+        ("drill 0 1 2", 3),
+        ("drill 0 1 --json", 3),
+        ("drill -- -1 1", 3),
+        ("drill 4294967296 1", 3),
+        ("drill 00 1", 3),
+        ("drill 0 0", 3),
+        ("drill 0 01", 3),
+        ("drill 0 25001", 3),
+        ("drill demo 1", 3),
     ] {
         assert_eq!(rt;
             form_of(words_of(alloc, line)?.as_slice()),
@@ -217,6 +228,27 @@ fn words_of_vote(rt: HostRuntime) -> Result<(), Fail> {
         assert_eq!(rt;
             file_words(words.as_slice()),
             [Some(telegrams), None, None],
+            "at {line}"
+        );
+        assert_eq!(rt; form.plant(), None);
+    }
+    Ok(())
+}
+
+#[test]
+fn words_of_drill(rt: HostRuntime) -> Result<(), Fail> {
+    let alloc = rt.alloc();
+    for (line, seed, size) in [
+        ("drill 0 1", 0, 1),
+        ("drill -- 7 20000", 7, 20_000),
+        ("drill 4294967295 25000", u32::MAX, 25_000),
+    ] {
+        let words = words_of(alloc, line)?;
+        let form = Form::Drill { seed, size };
+        assert_eq!(rt; form_of(words.as_slice()), Ok(form), "at {line}");
+        assert_eq!(rt;
+            file_words(words.as_slice()),
+            [None, None, None],
             "at {line}"
         );
         assert_eq!(rt; form.plant(), None);

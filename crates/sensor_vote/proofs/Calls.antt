@@ -14,7 +14,8 @@ use Rattle.plant_model.specs.declared.limits.TheConstants.{MOST_STREAM_BYTES}
 use Rattle.dp_words.specs.Faults.{HasGreaterCount, TellsFaults}
 use Rattle.dp_words.specs.Words.{form_of}
 use Rattle.dp_words.specs.declared.form.Form.{Form}
-use Rattle.dp_words.specs.declared.form.Form.TheVariants.{Capability, Check, Replay, Run, Vote}
+use Rattle.dp_words.specs.declared.form.Form.TheVariants.{Capability, Check, Drill, Replay, Run}
+use Rattle.dp_words.specs.declared.form.Form.TheVariants.{Vote}
 use Rattle.dp_words.specs.declared.status.RunStatus.{RunStatus}
 use Rattle.dp_words.specs.declared.status.RunStatus.TheVariants.{Clear, JournalFull, LossFound}
 use Rattle.dp_words.specs.declared.status.RunStatus.TheVariants.{NoMemory, Plant, StreamTooLong}
@@ -47,6 +48,9 @@ other-words (command ∷ words) (Ok (Check plant demand json)) named is other =
 other-words (command ∷ words) (Ok (Capability plant demand)) named is other =
     absurd (no-other command words (codes "vote") (Capability plant demand) named
     (differ (codes "vote") (codes "capability") refl) (sym is))
+other-words (command ∷ words) (Ok (Drill seed size)) named is other =
+    absurd (no-other command words (codes "vote") (Drill seed size) named
+    (differ (codes "vote") (codes "drill") refl) (sym is))
 other-words (command ∷ words) (Err kind) named is other =
     sym is ∙ ap Err (vote-other command words kind named (sym is))
 

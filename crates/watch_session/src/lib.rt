@@ -14,5 +14,6 @@ mod stopping;
 mod stream;
 
 pub use ending::watch_session;
+pub use nowhere::Nowhere;
 pub use session::{Watched, watch};
 pub use stream::{Stream, StreamEnd, StreamEnds};

@@ -3,9 +3,10 @@ ghost use Rattle.std.specs.Prelude.{None};
 
 use dp_io::{Failed, Sink};
 
-/// A sink that takes all, tells nothing and never fails: for the frames of a stream that has no commands.
+/// A sink that takes all, tells nothing and never fails: for the frames of a stream that has no commands, and of a session
+/// whose frames nobody reads.
 #[derive(Clone, Copy, Debug, PartialEq, Eq)]
-pub(crate) struct Nowhere;
+pub struct Nowhere;
 
 impl Sink for Nowhere {
     ghost taken = { λ sink. None };

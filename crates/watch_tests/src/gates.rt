@@ -117,3 +117,45 @@ impl Gate for BothLoops {
         }
     }
 }
+
+/// Counts the items of the two loops, and holds each loop at its first until a worker has taken a job.
+#[derive(Drop)]
+pub(crate) struct CountedItems {
+    pub(crate) patience: Patience,
+    taken: AtomicU64,
+    sensors: AtomicU64,
+    operators: AtomicU64,
+}
+
+impl CountedItems {
+    pub(crate) fn new() -> CountedItems {
+        CountedItems {
+            patience: Patience::new(),
+            taken: AtomicU64::new(0),
+            sensors: AtomicU64::new(0),
+            operators: AtomicU64::new(0),
+        }
+    }
+
+    fn count(&self, items: &AtomicU64) {
+        if items.fetch_add(1, SeqCst) == 0 {
+            self.patience.until(&self.taken);
+        }
+    }
+
+    /// How many items the sensors' loop had, and how many the operators'.
+    pub(crate) fn counts(&self) -> (u64, u64) {
+        (self.sensors.load(SeqCst), self.operators.load(SeqCst))
+    }
+}
+
+impl Gate for CountedItems {
+    fn reached(&self, stage: Stage) {
+        match stage {
+            Stage::JobTaken(_) => self.taken.store(1, SeqCst),
+            Stage::Item(1) => self.count(&self.sensors),
+            Stage::Item(2) => self.count(&self.operators),
+            _ => {}
+        }
+    }
+}

@@ -1,6 +1,8 @@
-//! Tests of `dp run` over streams in memory, with gates that hold its callers back.
+//! Tests of `dp run` and `dp drill` over streams in memory, with gates that hold their callers back.
 #![tactic(auto)]
 
+#[cfg(test)]
+mod drills;
 #[cfg(test)]
 mod gates;
 #[cfg(test)]

@@ -1,4 +1,4 @@
-//! A call of `dp run` over streams in memory.
+//! Calls of `dp run` and `dp drill` over streams in memory.
 
 use dp_io::{Gate, MemorySink, MemorySource};
 use dp_program::run;
@@ -23,6 +23,11 @@ pub(crate) struct Ended {
 }
 
 impl Ended {
+    /// What the output took.
+    pub(crate) fn text(&self) -> &[u8] {
+        self.out.taken()
+    }
+
     /// How many lines of the output end so.
     pub(crate) fn count(&self, end: &str) -> usize {
         self.out
@@ -33,17 +38,17 @@ impl Ended {
     }
 }
 
-/// Runs the demo over these streams, with so many workers.
-pub(crate) fn runs(
+/// Does what the words ask for, with these sources of the sensors and the operators.
+fn calls(
     rt: &(impl Threads + Wait + Sync),
     alloc: Global,
-    workers: &str,
+    line: &[&str],
     mut sensors: MemorySource,
     mut operators: MemorySource,
     gate: &(impl Gate + Sync),
 ) -> Result<Ended, Fail> {
     let mut words = Vec::new(alloc);
-    for word in ["run", "demo", "sensors", "operators", "--workers", workers] {
+    for word in line {
         words.push(String::from_str(alloc, word)?)?;
     }
     let mut plant = source(alloc, "")?;
@@ -61,4 +66,29 @@ pub(crate) fn runs(
         gate,
     );
     Ok(Ended { status, out })
+}
+
+/// Runs the demo over these streams, with so many workers.
+pub(crate) fn runs(
+    rt: &(impl Threads + Wait + Sync),
+    alloc: Global,
+    workers: &str,
+    sensors: MemorySource,
+    operators: MemorySource,
+    gate: &(impl Gate + Sync),
+) -> Result<Ended, Fail> {
+    let line = ["run", "demo", "sensors", "operators", "--workers", workers];
+    calls(rt, alloc, &line, sensors, operators, gate)
+}
+
+/// Runs a drill of this seed and size.
+pub(crate) fn drills(
+    rt: &(impl Threads + Wait + Sync),
+    alloc: Global,
+    seed: &str,
+    size: &str,
+    gate: &(impl Gate + Sync),
+) -> Result<Ended, Fail> {
+    let (sensors, operators) = (source(alloc, "")?, source(alloc, "")?);
+    calls(rt, alloc, &["drill", seed, size], sensors, operators, gate)
 }

@@ -8,8 +8,8 @@ use Rattle.dp_words.specs.declared.form.Form.TheVariants.{Check, Replay, Run}
 use Rattle.dp_sessions.specs.Checks.{AsksCheck}
 use Rattle.dp_sessions.specs.Sessions.{passed}
 use Rattle.dp_words.proofs.Plants.{named-at, word-at}
-use Rattle.dp_program.proofs.Named.{no-capability, no-vote, ran-check, ran-replay, ran-usage}
-use Rattle.dp_program.proofs.Named.{ran-watch}
+use Rattle.dp_program.proofs.Named.{no-capability, no-drill, no-vote, ran-check, ran-replay}
+use Rattle.dp_program.proofs.Named.{ran-usage, ran-watch}
 use Rattle.dp_program.proofs.program.answer.Goals as goal
 
 pub watch-requires-clause-workers : goal.watch-requires-clause-workers
@@ -97,3 +97,9 @@ unreachable-requires-in-Ok-Capability g c =
     let capability = c.in-Ok-Capability in
     no-capability (map string_bytes c.args.words.now) capability.field-0-0 capability.field-0-1
     c.requires.no_capability (sym capability.ensures.form ∙ ap Ok capability.field-0-is)
+
+pub unreachable-requires-in-Ok-Drill : goal.unreachable-requires-in-Ok-Drill
+unreachable-requires-in-Ok-Drill g c =
+    let drill = c.in-Ok-Drill in
+    no-drill (map string_bytes c.args.words.now) drill.field-0-0 drill.field-0-1
+    c.requires.no_drill (sym drill.ensures.form ∙ ap Ok drill.field-0-is)

@@ -1,4 +1,4 @@
--- The words have no form, ask for a vote, or name a plant.
+-- The words have no form, or one without a plant, or name a plant.
 use Rattle.std.proofs.Common.{length, map, string_bytes, sym, ap}
 use Rattle.std.proofs.Math.Path.{refl}
 use Rattle.dp_io.specs.Shown.{NoneFailed, reading, writing}
@@ -7,7 +7,7 @@ use Rattle.dp_sessions.specs.Sessions.{passed, recorded}
 use Rattle.dp_sessions.proofs.Endings.{session-usage}
 use Rattle.dp_words.proofs.Faults.{all-one}
 use Rattle.dp_words.proofs.Plants.{named-at}
-use Rattle.dp_sessions.proofs.Votes.{asks-none, asks-vote}
+use Rattle.dp_sessions.proofs.Votes.{has-plant}
 use Rattle.dp_sessions.proofs.replay.replay_words.Goals as goal
 
 pub returns-in-Some-clause-session : goal.returns-in-Some-clause-session
@@ -20,9 +20,9 @@ returns-in-Some-clause-session g c = λ none.
     c.index-words-plant.is c.as_str.ensures.value)
 
 pub returns-in-Some-clause-refused : goal.returns-in-Some-clause-refused
-returns-in-Some-clause-refused g c = λ report asked.
-    absurd (asks-none (map string_bytes c.args.words.now) c.in-Ok.form c.in-Some.plant report
-    (sym c.in-Ok.ensures.form) (sym c.in-Some.ensures.place) asked)
+returns-in-Some-clause-refused g c = λ none.
+    absurd (has-plant (map string_bytes c.args.words.now) c.in-Ok.form c.in-Some.plant
+    (sym c.in-Ok.ensures.form) (sym c.in-Some.ensures.place) none)
 
 pub returns-in-Some-clause-unread : goal.returns-in-Some-clause-unread
 returns-in-Some-clause-unread g c = λ none.
@@ -34,13 +34,11 @@ returns-in-Some-clause-unread g c = λ none.
     c.index-words-plant.is c.as_str.ensures.value))
 
 pub returns-in-None-clause-session : goal.returns-in-None-clause-session
-returns-in-None-clause-session g c = λ none.
-    let asked = asks-vote (map string_bytes c.args.words.now) c.in-Ok.form
-    (sym c.in-Ok.ensures.form) (sym c.in-None.ensures.place) in
-    absurd (none asked.0 asked.1)
+returns-in-None-clause-session g c = λ some.
+    absurd (some (c.in-Ok.form, sym c.in-Ok.ensures.form, sym c.in-None.ensures.place))
 
 pub returns-in-None-clause-refused : goal.returns-in-None-clause-refused
-returns-in-None-clause-refused g c = λ report asked. record {
+returns-in-None-clause-refused g c = λ none. record {
   usage = ap Usage c.number.ensures;
   unread = (refl, refl);
   unwritten = refl;
@@ -58,4 +56,4 @@ returns-in-Err-clause-session g c = λ none.
     (record { unwritten = refl; unread = refl }) refl (all-one NoneFailed source.shown refl) refl
 
 pub returns-in-Err-clause-refused : goal.returns-in-Err-clause-refused
-returns-in-Err-clause-refused g c = λ report asked. absurd (cc (asked.1, c.in-Err.ensures.form))
+returns-in-Err-clause-refused g c = λ none. absurd (cc (none.1, c.in-Err.ensures.form))
