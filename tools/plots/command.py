@@ -110,7 +110,7 @@ def make_report(given: argparse.Namespace) -> None:
 
     word, name = ("demo", "demo") if given.plant == "demo" else (str(path.resolve()), path.name)
     texts = [report.written(command, word, demand) for command in ("check", "capability")]
-    pathlib.Path(given.out).write_text(report.page(plant, *texts, shlex.join(["--", name, *demand])))
+    pathlib.Path(given.out).write_text(report.page(plant, *texts, shlex.join(["--", name, *demand])), encoding="utf-8")
 
 
 KINDS = {
