@@ -3,7 +3,7 @@
 
 Usage: bench/vote.py. It runs ./dp once to build the program, then measures the program itself on streams of 1 MiB and
 of 16 MiB, with frames and with a report: the bytes that it filters in a second of user time, each the best of several
-rounds of runs, and its peak memory. It ends with 1 where a goal is missed.
+rounds of runs in which both sizes take turns, and its peak memory. It ends with 1 where a goal is missed.
 
 The vessel moves about the set point. Each second has three references and a switching telegram; the third drifts off to
 the north and back.
@@ -49,20 +49,26 @@ def stream(size: int) -> bytes:
         lines.append(line)
 
 
+def seconds(path: pathlib.Path, options: list[str]) -> float:
+    """The mean user time of a run, over as many runs as read so many bytes in all."""
+    return user_seconds(["vote", path, *options], RUNS * MOST_STREAM_BYTES // int(path.name))
+
+
 def main() -> int:
     build()
     missed = []
     with tempfile.TemporaryDirectory() as folder:
-        path = pathlib.Path(folder) / "references"
+        paths = [pathlib.Path(folder) / str(size) for size in (MEBIBYTE, MOST_STREAM_BYTES)]
+        for path in paths:
+            path.write_bytes(stream(int(path.name)))
         for name, options in (("frames", []), ("report", ["--report"])):
-            words = ["vote", path, *options]
+            rounds = [[seconds(path, options) for path in paths] for _ in range(ROUNDS)]
             speeds = []
-            for size in (MEBIBYTE, MOST_STREAM_BYTES):
-                path.write_bytes(stream(size))
+            for path, best in zip(paths, map(min, zip(*rounds))):
                 mebibytes = path.stat().st_size / MEBIBYTE
-                seconds = min(user_seconds(words, RUNS * MOST_STREAM_BYTES // size) for _ in range(ROUNDS))
-                speeds.append(mebibytes / seconds)
-                print(f"{name}: {mebibytes:.1f} MiB in {1e3 * seconds:.1f} ms user, {speeds[-1]:.0f} MiB a second")
+                speeds.append(mebibytes / best)
+                print(f"{name}: {mebibytes:.1f} MiB in {1e3 * best:.1f} ms user, {speeds[-1]:.0f} MiB a second")
+            words = ["vote", paths[-1], *options]
             written = len(subprocess.run([PROGRAM, *words], stdout=subprocess.PIPE, check=True).stdout)
             peak = peak_mebibytes(words, written)
             print(f"{name}: {peak:.1f} MiB at most")
