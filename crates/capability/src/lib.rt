@@ -8,3 +8,4 @@ mod speeds;
 
 pub use limit::{MOST_LOSSES, Next, Step, WindLimit, wind_limit};
 pub use parts::{Margin, reserve};
+pub use speeds::path;
