@@ -61,7 +61,7 @@ fn next_job<R: Wait>(rt: &R, jobs: &Jobs, own: &mut JobPass, rest: &Rest) -> Job
     ensures own { own.new.queue ≡ jobs.now }
 {
     for _ in rt.forever() {
-        let mark = rest.mark(rt);
+        let mark = rest.mark();
         match jobs.take(rt, own) {
             Some(job) => return job,
             None => rest.rest(rt, mark),

@@ -112,7 +112,7 @@ fn look<T: Shows>(reader: ShotReader<T>, kept: &mut Shot<T>) -> ShotReader<T>
 {
     match reader.enter_as::<Reads>() {
         Ok(reading) => {
-            kept.follow(reading.get());
+            kept.catch_up(reading.get());
             reading.leave()
         }
         Err(reader) => reader,

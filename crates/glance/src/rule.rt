@@ -22,6 +22,11 @@ impl<T: Shows> Absorb<Shot<T>> for Shot<T> {
         *self = operation.again();
         Ok(())
     }
+
+    fn absorb_second(&mut self, operation: Shot<T>, _other: &Shot<T>) -> Result<(), Shot<T>> {
+        *self = operation;
+        Ok(())
+    }
 }
 
 /// What a reader knows is a board of its log, or nothing.

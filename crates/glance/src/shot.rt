@@ -123,6 +123,24 @@ impl<T: Shows> Shot<T> {
         is_no_earlier
     }
 
+    /// Becomes another that is later, or stays.
+    pub fn catch_up(&mut self, other: &Shot<T>)
+        requires { other.now.glance ≡ self.old.glance }
+        ensures glance { self.new.glance ≡ self.old.glance }
+        ensures later { IsLater T.any_base self.old.log self.new.log }
+    {
+        if self.number < other.number {
+            self.follow(other);
+        }
+    }
+
+    /// Whether another shows the same cells.
+    pub fn shows_as(&self, other: &Shot<T>) -> bool
+        ensures { OnTrue result (self.now.cells ≡ other.now.cells) }
+    {
+        self.cells == other.cells
+    }
+
     /// The board of a value's list as the next one that is published. `None` where the word
     /// counts otherwise, or can count no further.
     pub fn next(&self, head: &Head<T>, of: &T, cells: Cells) -> Option<Shot<T>>

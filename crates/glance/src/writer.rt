@@ -87,8 +87,10 @@ impl<T: Shows> GlanceWriter<T> {
         let Some(shot) = self.last.next(&self.head, of, cells) else {
             return Err(NoMemory);
         };
-        put(&mut self.writer, shot.again())?;
-        turn(rt, &mut self.writer);
+        if !shot.shows_as(&self.last) {
+            put(&mut self.writer, shot.again())?;
+            turn(rt, &mut self.writer);
+        }
         self.last = shot;
         Ok(())
     }

@@ -20,8 +20,9 @@ use turn_lock::Keeps;
 
 /// The machine behind the lock, and the writer of what displays show of it, which is behind by some
 /// entries at most. Contracts see the machine, and which displays they are.
+// Each turn moves the value out of the lock and back; the machine in its box stays where it is.
 pub(crate) struct PlantValue {
-    board: PlantBoard,
+    board: Box<PlantBoard>,
     writer: GlanceWriter<PlantBoard>,
 }
 
@@ -31,11 +32,11 @@ impl Model for PlantValue {
     ghost Value = { ValueView };
 
     ghost view = { λ value. record {
-      core = value.board.core;
+      core = value.board.value.core;
       glance = value.writer.glance;
     } };
 
-    ghost invariant = { λ value. IsWritten value.writer value.board.core };
+    ghost invariant = { λ value. IsWritten value.writer value.board.value.core };
 }
 
 impl Keeps for PlantValue {
@@ -75,9 +76,9 @@ impl PlantValue {
         ensures value { IfOk result (λ r. r.0 ≡ record { core = core; glance = r.1.glance }) }
         ensures base { IfOk result (λ r. r.1.base ≡ board_base core) }
     {
-        let board = PlantBoard { core };
+        let board = Box::new(alloc, PlantBoard { core })?;
         let cells = board.core.cells();
-        let (glance, writer) = Glance::start(alloc, &board, cells)?;
+        let (glance, writer) = Glance::start(alloc, &*board, cells)?;
         Ok((PlantValue { board, writer }, glance))
     }
 
@@ -138,7 +139,7 @@ impl PlantValue {
         ensures { self.new ≡ self.old }
     {
         let cells = self.cells();
-        let _ = self.writer.publish(rt, &self.board, cells);
+        let _ = self.writer.publish(rt, &*self.board, cells);
     }
 
     /// Shows the board to a display, which has then seen the whole history.
@@ -155,7 +156,7 @@ impl PlantValue {
         ensures kept { OnErr result (display.new ≡ display.old) }
     {
         let cells = self.cells();
-        self.writer.publish(rt, &self.board, cells)?;
+        self.writer.publish(rt, &*self.board, cells)?;
         self.writer.tell(rt, display);
         Ok(())
     }
@@ -182,6 +183,6 @@ impl PlantValue {
     {
         let PlantValue { board, writer } = self;
         writer.end(rt);
-        board.core
+        Box::into_inner(board).core
     }
 }

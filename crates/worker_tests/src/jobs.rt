@@ -60,7 +60,7 @@ fn a_queue_gives_its_jobs_in_their_order(rt: HostRuntime) -> Result<(), Fail> {
 fn wait<R: Wait>(rt: &R, jobs: &Jobs, mut pass: JobPass, rest: &Rest) -> Option<Job>
     requires { pass.queue ≡ jobs.now }
 {
-    let mark = rest.mark(rt);
+    let mark = rest.mark();
     if let Some(job) = jobs.take(rt, &mut pass) {
         return Some(job);
     }
