@@ -1,5 +1,8 @@
 pub mod AlsoRight
+pub mod Behind
+pub mod Differences
 pub mod Faults
+pub mod Frames
 pub mod Logs
 pub mod Lowest
 pub mod OtherThrusts
@@ -9,6 +12,8 @@ pub mod Readings
 pub mod Replies
 pub mod Rights
 pub mod SameReplies
+pub mod SessionReadings
+pub mod Sessions
 pub mod Standing
 pub mod Streams
 pub mod Sums

@@ -175,7 +175,7 @@ module _ (plant : Parts) (named : AreNamed plant.groups.items)
   NoneFollows history own = (entry : Entry) → IsLineOf plant own entry
       → ¬ IsEntry plant MOST_ENTRIES (stand_after plant history) entry
 
-  no-longer_by : (front history : List Entry) (own : List ℕ) → NoneFollows front own
+  pub no-longer_by : (front history : List Entry) (own : List ℕ) → NoneFollows front own
       → IsLogged plant history → GoesOn front own history → ⊥
   no-longer_by front history own none logged on =
       let split = subst (IsLogged plant) on.is logged in

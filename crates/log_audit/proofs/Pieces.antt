@@ -80,3 +80,7 @@ nothing_left front [] text empty is = sym (append-nil front) ∙ is
 nothing_left front (b ∷ bs) text empty is =
     let size : length (b ∷ bs) ≡ 0 = (Decides-eqb (length (b ∷ bs)) 0).0 empty in
     absurd (omega (arith, size))
+
+pub some_left : (rest : List ℕ) → (length rest == 0) ≡ false → 0 < length rest
+some_left [] some = absurd (cc (some))
+some_left (b ∷ bs) some = omega arith

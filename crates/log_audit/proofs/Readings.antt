@@ -14,7 +14,7 @@ use Rattle.log_text.specs.Fits.{FitsEntry}
 use Rattle.log_text.proofs.CommandBodies.{part-append, part-known, part-name}
 use Rattle.log_text.proofs.ToldGroups.{AreNamed}
 use Rattle.log_reading.specs.Lines.{IsLineOf}
-use Rattle.log_audit.specs.Audits.{Audits, AuditView, CanRead, IsBadOn, IsRead, IsUnread, StandsAt}
+use Rattle.log_audit.specs.Audits.{CanRead, IsBadOn, IsRead, IsUnread, StandsAt}
 use Rattle.log_audit.specs.declared.stage.Stage.{Stage}
 use Rattle.log_audit.specs.FirstBad.{text_of}
 use Rattle.log_audit.specs.Lines.{HasNames, HasNoFeed, entry_line, head_line, log_lines}
@@ -64,7 +64,7 @@ opens_bad core can own good other lines unread more =
 
 -- ---- a line more
 
-twins-push : (history other : List Entry) (entry twin : Entry) → Twins history other
+pub twins-push : (history other : List Entry) (entry twin : Entry) → Twins history other
     → AreTwins entry twin → Twins (history ++ entry ∷ []) (other ++ twin ∷ [])
 twins-push [] [] entry twin twins last = (last, tt)
 twins-push [] (f ∷ fs) entry twin twins last = absurd twins
@@ -73,13 +73,13 @@ twins-push (e ∷ es) (f ∷ fs) entry twin twins last =
     (twins.0, twins-push es fs entry twin twins.1 last)
 
 -- a line spells its entry
-spells : (plant : Parts) (own : List ℕ) (entry : Entry) → IsLineOf plant own entry
+pub spells : (plant : Parts) (own : List ℕ) (entry : Entry) → IsLineOf plant own entry
     → own ≡ entry_line plant entry
 spells plant own entry told =
     sym (append_cancel_right (entry_line plant entry) own (line_feed ∷ []) told.is)
 
 -- where the machine stands, a history stands of which it has taken twins
-stands_so : (core : CoreView) (lines : List (List ℕ)) (entries : ℕ) (read : IsRead core lines entries)
+pub stands_so : (core : CoreView) (lines : List (List ℕ)) (entries : ℕ) (read : IsRead core lines entries)
     → CanRead core → (entry : Entry)
     → IsEntry core.plant core.limit (stand_after core.plant core.history) entry
     → IsEntry core.plant MOST_ENTRIES (stand_after core.plant read.history) entry
@@ -89,7 +89,7 @@ stands_so core lines entries read can entry stands =
     (subst (λ (limit : ℕ). IsEntry core.plant limit (stand_after core.plant core.history) entry)
     can.limit stands)
 
-stands_back : (core : CoreView) (lines : List (List ℕ)) (entries : ℕ)
+pub stands_back : (core : CoreView) (lines : List (List ℕ)) (entries : ℕ)
     (read : IsRead core lines entries) → CanRead core → (entry : Entry)
     → IsEntry core.plant MOST_ENTRIES (stand_after core.plant read.history) entry
     → IsEntry core.plant core.limit (stand_after core.plant core.history) entry
@@ -99,14 +99,14 @@ stands_back core lines entries read can entry stands =
     (subst (λ (stand : Stand). IsEntry core.plant MOST_ENTRIES stand entry)
     (sym (twins_alike core.plant core.history read.history read.twins)) stands)
 
-length-log : (plant : Parts) (history : List Entry)
+pub length-log : (plant : Parts) (history : List Entry)
     → length (log_lines plant history) ≡ length history + 1
 length-log plant history = omega (arith, length-map history (entry_line plant))
 
 -- with the line of an entry that may stand next, it is a log again
 module _ (before : CoreView) (can : CanRead before) (own : List ℕ) (lines : List (List ℕ))
     (entries : ℕ) (read : IsRead before lines entries) (count : ℕ) (is : count ≡ length lines) where
-  read_more : (entry twin : Entry) → IsLineOf before.plant own entry
+  abbrev pub read_more : (entry twin : Entry) → IsLineOf before.plant own entry
       → IsEntry before.plant before.limit (stand_after before.plant before.history) entry
       → AreTwins twin entry
       → IsRead (record before { history = before.history ++ twin ∷ [] }) (lines ++ own ∷ []) count
@@ -171,10 +171,9 @@ stays_bad before after own lines number same bad more =
 
 -- ---- the end
 
-pub stands_at : (audit : AuditView) (lines : List (List ℕ)) {stage : Stage} → audit.stage ≡ stage
-    → Audits audit lines → StandsAt stage audit.core lines
-stands_at audit lines is audits =
-    subst (λ (stage : Stage). StandsAt stage audit.core lines) is audits.stands
+pub at_stage : {stage own : Stage} → stage ≡ own → (core : CoreView) (lines : List (List ℕ))
+    → StandsAt stage core lines → StandsAt own core lines
+at_stage is core lines at = subst (λ (s : Stage). StandsAt s core lines) is at
 
 module _ (core : CoreView) (can : CanRead core) (lines : List (List ℕ)) where
   pub ends_unread : IsUnread core lines → IsBadAt core.plant (text_of lines) 1

@@ -3,7 +3,7 @@ use Rattle.std.proofs.Common.{◌≡◌, ◌∙◌, ℕ, zero, suc, ◌≤◌, �
 use Rattle.std.proofs.Common.{Bool, true, false, cond, ◌==◌, refl, ap, sym, arith, append_assoc}
 use Rattle.std.proofs.Common.{append-nil}
 use Rattle.std.proofs.lemmas.List.{take-append-le}
-use Rattle.std.proofs.lemmas.List.Elements.{All-cons, All-nil}
+use Rattle.std.proofs.lemmas.List.Elements.{All-append, All-cons, All-nil}
 use Rattle.std.proofs.lemmas.List.Splits.{join_with_byte-slice_split, length-slice_split}
 use Rattle.std.proofs.lemmas.List.Splits.{slice_split_at, slice_split_none}
 use Rattle.std.specs.List.{join_with_byte, onto_first}
@@ -129,6 +129,26 @@ but_last-good (own ∷ next ∷ more) good = (good.0, but_last-good (next ∷ mo
 
 pub lines-have_none : (text : List ℕ) → AreLines (whole_lines text)
 lines-have_none text = but_last-good (between_feeds text) (parts-have_none text)
+
+last-good : (parts : List (List ℕ)) → AreLines parts → HasNoFeed (last_of parts)
+last-good [] good = All-nil (λ b. (b == line_feed) ≡ false)
+last-good (own ∷ []) good = good.0
+last-good (own ∷ next ∷ more) good = last-good (next ∷ more) good.1
+
+pub open-has_none : (text : List ℕ) → HasNoFeed (open_line text)
+open-has_none text = last-good (between_feeds text) (parts-have_none text)
+
+-- nothing stands behind a line at a text's end
+pub open-behind : (text own : List ℕ) → HasNoFeed own → open_line (text ++ line own) ≡ []
+open-behind text own good =
+    let lines = whole_lines text in
+    let rest = open_line text in
+    ap (λ (t : List ℕ). open_line (t ++ line own)) (lines-and_rest text)
+    ∙ ap open_line (append_assoc (text_of lines) rest (line own))
+    ∙ open-lines lines (rest ++ line own) (lines-have_none text)
+    ∙ ap open_line (sym (append_assoc rest own (line_feed ∷ [])) ∙ sym (append-nil (line (rest ++ own))))
+    ∙ open-line (rest ++ own) []
+    (All-append (λ b. (b == line_feed) ≡ false) rest own (open-has_none text) good)
 
 -- ---- first lines
 

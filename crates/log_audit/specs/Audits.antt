@@ -1,21 +1,15 @@
--- What an auditor has read.
+-- How far lines are a log.
 use Rattle.std.specs.Prelude.{◌≡◌, ℕ, List, [], ◌++◌, length}
 use Rattle.plant_model.specs.declared.limits.TheConstants.{MOST_ENTRIES}
 use Rattle.plant_core.specs.Machine.{CoreView}
 use Rattle.plant_core.specs.declared.call.Entry.{Entry}
 use Rattle.log_audit.specs.Accepted.{IsLogged}
 use Rattle.log_audit.specs.FirstBad.{text_of}
-use Rattle.log_audit.specs.Lines.{AreLines, HasNames, log_lines}
+use Rattle.log_audit.specs.Lines.{HasNames, log_lines}
 use Rattle.log_audit.specs.Twins.{Twins}
 use Rattle.log_audit.specs.Verdicts.{IsBadAt}
 use Rattle.log_audit.specs.declared.stage.Stage.{Stage}
 use Rattle.log_audit.specs.declared.stage.Stage.TheVariants.{Bad, Before, Log}
-
--- what contracts see of an auditor: its machine, how many lines it has read, and how far they are a log
-pub record AuditView : Type 0 where
-  pub core : CoreView
-  pub lines : ℕ
-  pub stage : Stage
 
 -- the machine is one of a plant whose lines name one entry each, with the limit of a
 -- session
@@ -45,9 +39,3 @@ abbrev pub StandsAt : Stage → CoreView → List (List ℕ) → Type 0
 StandsAt Before core lines = IsUnread core lines
 StandsAt (Log entries) core lines = IsRead core lines entries
 StandsAt (Bad number) core lines = IsBadOn core lines number
-
--- an auditor that stands so has read these lines, as far as what follows can tell
-pub record Audits (audit : AuditView) (lines : List (List ℕ)) : Type 0 where
-  pub good : AreLines lines
-  pub count : audit.lines ≡ length lines
-  pub stands : StandsAt audit.stage audit.core lines

@@ -1,8 +1,11 @@
 pub mod Accepted
+pub mod Auditors
 pub mod Audits
+pub mod Differences
 pub mod FirstBad
 pub mod Lines
 pub mod Rights
+pub mod SessionAudits
 pub mod Sessions
 pub mod Steps
 pub mod Totals

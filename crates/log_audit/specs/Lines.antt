@@ -31,9 +31,10 @@ head_line plant = codes "LOG,1," ++ plant.name
 abbrev pub log_lines : Parts → List Entry → List (List ℕ)
 log_lines plant history = head_line plant ∷ entry_lines plant history
 
--- the plant and its groups have names that are ones, and no two groups share one
+-- the plant, its thrusters and its groups have names that are ones, and no two groups share one
 pub record HasNames (plant : Parts) : Type 0 where
   pub own : IsTrue (is_name plant.name)
+  pub thrusters : All (λ thruster. IsTrue (is_name thruster.name)) plant.thrusters.items
   pub groups : All (λ group. IsTrue (is_name group.name)) plant.groups.items
   pub distinct : are_distinct bytes_eq (map (λ group. group.name) plant.groups.items) ≡ true
 

@@ -1,11 +1,13 @@
 -- Where a text that isn't all that a session writes is bad first.
 use Rattle.std.specs.Prelude.{◌≡◌, ◌⊎◌, ℕ, ◌+◌, ◌-◌, ◌≤◌, List, ◌++◌, length, take, drop, codes}
-use Rattle.std.specs.Prelude.{Bool, Option, Some, None}
-use Rattle.std.specs.List.{position}
+use Rattle.std.specs.Prelude.{Bool, false, Option, Some, None}
+use Rattle.std.specs.List.{AllByRecursion, position}
 use Rattle.std.specs.Str.{bytes_eq}
 use Rattle.frame.specs.Frames.{whole_lines}
 use Rattle.plant_model.specs.declared.plant.Parts.{Parts}
+use Rattle.plant_core.specs.declared.call.Entry.{Entry}
 use Rattle.log_text.specs.Commands.{commands_text}
+use Rattle.log_text.specs.Texts.{report_text}
 use Rattle.log_audit.specs.Accepted.{Tells, log_part, session_text}
 use Rattle.log_audit.specs.FirstBad.{IsFirstBad, first_lines}
 
@@ -18,6 +20,18 @@ pub record IsFirstOther (text other : List ℕ) (number : ℕ) : Type 0 where
 -- a line that begins a log
 abbrev pub begins_log : List ℕ → Bool
 begins_log own = bytes_eq (take 4 own) (codes "LOG,")
+
+-- a line that may be a frame's
+abbrev pub is_framed : List ℕ → Bool
+is_framed own = bytes_eq (take 1 own) (codes "$")
+
+-- none of these lines begins a log
+abbrev pub NoneBegins : List (List ℕ) → Type 0
+NoneBegins lines = AllByRecursion (λ own. begins_log own ≡ false) lines
+
+-- the lines of a history's report
+abbrev pub report_lines : Parts → List Entry → List (List ℕ)
+report_lines plant history = whole_lines (report_text plant history)
 
 -- how many whole lines stand before the first that begins a log
 abbrev pub lines_before_log : List ℕ → Option ℕ

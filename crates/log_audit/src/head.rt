@@ -24,10 +24,20 @@ fn groups_are_named(plant: &Plant)
     }
 }
 
-/// The plant and its groups have names that are ones, and no two groups share one.
+/// Each thruster has a name that is one.
+fn thrusters_are_named(plant: &Plant)
+    ensures { All (λ thruster. IsTrue (is_name thruster.name)) plant.now.thrusters.items }
+{
+    for thruster in plant.thrusters().as_slice() {
+        let _name = thruster.name.bytes();
+    }
+}
+
+/// The plant, its thrusters and its groups have names that are ones, and no two groups share one.
 pub(crate) fn has_names(plant: &Plant)
     ensures { HasNames plant.now }
 {
+    thrusters_are_named(plant);
     groups_are_named(plant);
     let _name = plant.name().bytes();
     let _parts = plant.parts();

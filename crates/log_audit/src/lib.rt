@@ -1,10 +1,16 @@
-//! Whether a log is that of a legal history of a plant.
+//! Whether a text is the log of a legal history of a plant, or all that a session writes of one.
 #![tactic(auto)]
 
 mod auditor;
 mod beside;
+mod compare;
+mod front;
 mod head;
 mod laws;
+mod log;
+mod log_part;
+mod part;
+mod session;
 mod shares;
 mod stage;
 mod steps;

@@ -10,7 +10,11 @@ use plant_core::{Allocate, Core, Entry, NoMemory};
 
 /// Takes the call of an entry into the machine. False where the entry may not stand next: the machine's own reply is
 /// another, and not by its thrusts alone. `NoMemory` changes nothing.
-fn take<A: Allocate>(core: &mut Core, entry: Entry, allocator: &A) -> Result<bool, NoMemory>
+pub(crate) fn take<A: Allocate>(
+    core: &mut Core,
+    entry: Entry,
+    allocator: &A,
+) -> Result<bool, NoMemory>
     requires call { IsCall core.old.plant entry.call }
     requires answered { IsTrue (is_answer entry.reply) }
     ensures taken { result ≡ Ok true → HasTaken core.old core.new entry }

@@ -1,6 +1,6 @@
 -- A log that a line goes on, or one that stops before it.
 use Rattle.log_audit.proofs.Readings.{reads_on, stops}
-use Rattle.log_audit.proofs.auditor.continued.Goals as goal
+use Rattle.log_audit.proofs.log.continued.Goals as goal
 
 pub returns-then-is_next-clause-stands : goal.returns-then-is_next-clause-stands
 returns-then-is_next-clause-stands g c = λ before entries is read.

@@ -2,7 +2,7 @@
 use Rattle.std.proofs.Common.{◌∙◌, ap, sym}
 use Rattle.log_audit.specs.Lines.{head_line}
 use Rattle.log_audit.proofs.Readings.{opens_bad}
-use Rattle.log_audit.proofs.auditor.opened.Goals as goal
+use Rattle.log_audit.proofs.log.opened.Goals as goal
 
 pub returns-else-is_head : goal.returns-else-is_head
 returns-else-is_head c =
